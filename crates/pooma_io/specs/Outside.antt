@@ -1,0 +1,39 @@
+-- What the calls of a source and of a sink do, as far as the object tells it: what is left to read, what is held, how
+-- often it has failed, and how often it was called.
+use Rattle.std.specs.Prelude.{◌≡◌, ◌⊎◌, ℕ, ◌+◌, ◌-◌, ◌^◌, ◌<◌, ◌≤◌, List, ◌++◌, length, Option, None, Some, Result, IsErr}
+
+-- the greatest value of a count, at which it stands still
+abbrev pub LAST_COUNT : ℕ
+LAST_COUNT = 2 ^ 64 - 1
+
+-- a count rose, or it stands at its last value
+abbrev pub HasRisen : ℕ → ℕ → Type 0
+HasRisen before now = (before < now) ⊎ (now ≡ LAST_COUNT)
+
+-- a count of faults doesn't fall, and the call fails only where the count has risen
+pub record HasCause {T E : Type 0} (before now : ℕ) (result : Result T E) : Type 0 where
+  pub later : before ≤ now
+  pub failed : IsErr result → HasRisen before now
+
+-- a count of calls that is told rose by one, or isn't told any more
+abbrev pub CountsCall : Option ℕ → Option ℕ → Type 0
+CountsCall None new = Unit {0}
+CountsCall (Some n) None = Unit {0}
+CountsCall (Some n) (Some m) = m ≡ n + 1
+
+-- a count of calls that is told rose by at most so many
+abbrev pub CountsAtMost : Option ℕ → Option ℕ → ℕ → Type 0
+CountsAtMost (Some n) (Some m) calls = m ≤ n + calls
+CountsAtMost _ _ calls = Unit {0}
+
+-- some bytes were taken from the front of what was left, and no others
+abbrev pub TakesSome : Option (List ℕ) → Option (List ℕ) → Type 0
+TakesSome None new = Unit {0}
+TakesSome (Some xs) None = ⊥
+TakesSome (Some xs) (Some ys) = (taken : List ℕ) × (xs ≡ taken ++ ys)
+
+-- more than so many bytes were taken from the front of what was left
+abbrev pub TakesMoreThan : ℕ → Option (List ℕ) → Option (List ℕ) → Type 0
+TakesMoreThan limit None new = Unit {0}
+TakesMoreThan limit (Some xs) None = ⊥
+TakesMoreThan limit (Some xs) (Some ys) = (taken : List ℕ) × (xs ≡ taken ++ ys) × (limit < length taken)

@@ -1,0 +1,37 @@
+ghost use Rattle.std.specs.Prelude.{◌≡◌, ◌+◌, ◌≤◌, IfOk, OnOk, OnErr, IsErrOf, vec_len};
+ghost use Rattle.std.specs.Io.KnownBytes.{Consumes, IsAtEnd};
+ghost use Rattle.pooma_io.specs.Outside.{CountsAtMost, HasRisen, TakesMoreThan, TakesSome};
+
+use crate::source::Source;
+use std::alloc::Global;
+use thiserror::Error;
+
+/// Why not all of a source was read.
+#[derive(Clone, Copy, Debug, PartialEq, Eq, Error)]
+pub enum ReadAllError {
+    #[error("a read failed")]
+    ReadFault,
+    /// More bytes came than the limit allows.
+    #[error("too many bytes")]
+    TooLong,
+    #[error("out of memory")]
+    OutOfMemory,
+}
+
+/// All bytes up to the end of the source, at most `limit` of them.
+///
+/// After an error the source has lost the bytes that were taken.
+pub fn read_all<S: Source>(alloc: Global, source: &mut S, limit: usize) -> Result<Vec<u8>, ReadAllError>
+    // All that was left, to its end.
+    ensures bytes { IfOk result (λ bytes. Consumes (S.left source.old) (S.left source.new) bytes.items) }
+    ensures end { OnOk result (IsAtEnd (S.left source.new)) }
+    ensures within { IfOk result (λ bytes. vec_len bytes ≤ limit) }
+
+    // An error takes bytes from the front alone, and each has its cause.
+    ensures taken { OnErr result (TakesSome (S.left source.old) (S.left source.new)) }
+    ensures too_long { IsErrOf result ReadAllError.TooLong → TakesMoreThan limit (S.left source.old) (S.left source.new) }
+    ensures fault { IsErrOf result ReadAllError.ReadFault → HasRisen (S.faults source.old) (S.faults source.new) }
+    ensures later { S.faults source.old ≤ S.faults source.new }
+
+    // Each read takes a byte at least, but for the last.
+    ensures few_reads { CountsAtMost (S.reads source.old) (S.reads source.new) (limit + 2) }

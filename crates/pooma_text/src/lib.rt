@@ -1,0 +1,15 @@
+//! The script's bytes as lines, tokens and numbers, and numbers as decimal text.
+//!
+//! What a line, a token and a number are is said in `specs/`, as the language says it; `docs/LANGUAGE.md` has
+//! the same in prose.
+#![tactic(auto)]
+
+mod line;
+mod number;
+mod span;
+mod token;
+
+pub use line::lines;
+pub use number::{decimal, number};
+pub use span::Span;
+pub use token::{MOST_TOKENS, Token, TokenError, TokenKind, tokens};

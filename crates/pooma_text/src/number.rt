@@ -1,0 +1,17 @@
+ghost use Rattle.std.specs.Prelude.{◌≡◌, ◌≢◌, ◌^◌, ◌<◌, ◌++◌, [], List, ℤ, pos, length, All, OnOk, OnErr, SomeIff};
+ghost use Rattle.std.specs.Char.{IsAsciiDigit};
+ghost use Rattle.std.specs.Fmt.{signed_decimal};
+ghost use Rattle.pooma_text.specs.Number.{value_of};
+
+use std::alloc::{AllocError, Global};
+
+/// The number that decimal digits stand for, or None where it is above 2^63 - 1. Leading zeros change nothing.
+pub fn number(digits: &[u8]) -> Option<i64>
+    requires some { digits.now ≢ [] }
+    requires digits { All IsAsciiDigit digits.now }
+    ensures { SomeIff result (value_of digits.now < 2 ^ 63) (pos (value_of digits.now)) }
+
+/// Appends the decimal text of a number, with `-` before a negative one. Want of memory leaves `out` as it was.
+pub fn decimal(_alloc: Global, out: &mut Vec<u8>, value: i64) -> Result<(), AllocError>
+    ensures ok { OnOk result (out.new.items ≡ out.old.items ++ signed_decimal value) }
+    ensures err { OnErr result (out.new.items ≡ out.old.items) }

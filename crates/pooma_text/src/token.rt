@@ -1,0 +1,60 @@
+ghost use Rattle.std.specs.Prelude.{◌≡◌, ◌<◌, ◌≤◌, ◌⊎◌, List, ℕ, length, IfOk, IfErr, IsErrOf, MatchResult};
+ghost use Rattle.pooma_text.specs.declared.token.Token.{Token};
+ghost use Rattle.pooma_text.specs.Tokens.{BeginsWith, HasStray, HasTokens};
+
+use crate::span::Span;
+use std::alloc::Global;
+use thiserror::Error;
+
+/// How many tokens a line may have.
+pub const MOST_TOKENS: usize = 4096;
+
+/// What a token is.
+#[derive(Clone, Copy, Debug, PartialEq, Eq)]
+pub enum TokenKind {
+    /// A letter, then letters and digits.
+    Word,
+    /// One or more digits.
+    Number,
+    /// One of the signs.
+    Sign,
+}
+
+/// A token of a line: its kind, and the part of the line that it is.
+#[derive(Clone, Copy, Debug, PartialEq, Eq)]
+pub struct Token {
+    pub kind: TokenKind,
+    pub span: Span,
+}
+
+/// Why a line has no list of tokens.
+#[derive(Clone, Copy, Debug, PartialEq, Eq, Error)]
+pub enum TokenError {
+    /// The byte at this place of the line begins no token.
+    #[error("a byte that begins no token at {place}")]
+    BadByte { place: usize },
+    /// More than `MOST_TOKENS` tokens stand before the line's end, or before a byte that begins none.
+    #[error("too many tokens")]
+    TooMany,
+    #[error("out of memory")]
+    OutOfMemory,
+}
+
+/// The tokens of a line in order, each the longest that fits, without blanks and the comment.
+///
+/// The line has no line end. After any error nothing has changed.
+pub fn tokens(alloc: Global, line: &[u8]) -> Result<Vec<Token>, TokenError>
+    ensures found { IfOk result (λ found. HasTokens line.now found.items) }
+    ensures few { IfOk result (λ found. length found.items ≤ MOST_TOKENS) }
+    ensures stray { (place : ℕ) → IsErrOf result (TokenError.BadByte place)
+        → (before : List Token) × HasStray line.now before place × (length before ≤ MOST_TOKENS) }
+    ensures many { IsErrOf result TokenError.TooMany
+        → (front : List Token) × BeginsWith line.now front × (MOST_TOKENS < length front) }
+
+    // Nothing that the line has is refused, and nothing else is answered for it.
+    ensures only_found { (all : List Token) → HasTokens line.now all → length all ≤ MOST_TOKENS
+        → MatchResult result (λ found. found.items ≡ all) (λ e. e ≡ TokenError.OutOfMemory) }
+    ensures only_stray { (before : List Token) (place : ℕ) → HasStray line.now before place → length before ≤ MOST_TOKENS
+        → IsErrOf result (TokenError.BadByte place) ⊎ IsErrOf result TokenError.OutOfMemory }
+    ensures only_many { (front : List Token) → BeginsWith line.now front → MOST_TOKENS < length front
+        → IsErrOf result TokenError.TooMany ⊎ IsErrOf result TokenError.OutOfMemory }
