@@ -1,10 +1,18 @@
 -- What the calls of a source and of a sink do, as far as the object tells it: what is left to read, what is held, how
 -- often it has failed, and how often it was called.
-use Rattle.std.specs.Prelude.{◌≡◌, ◌⊎◌, ℕ, ◌+◌, ◌-◌, ◌^◌, ◌<◌, ◌≤◌, List, ◌++◌, length, Option, None, Some, Result, IsErr}
+use Rattle.std.specs.Prelude.{◌≡◌, ◌⊎◌, ℕ, ◌+◌, ◌-◌, ◌^◌, ◌<◌, ◌≤◌, min, nat_lt, if◌then◌else◌, List, ◌++◌, length, Option, None, Some, Result, IsErr}
 
 -- the greatest value of a count, at which it stands still
 abbrev pub LAST_COUNT : ℕ
 LAST_COUNT = 2 ^ 64 - 1
+
+-- one more, or the last value where the count stands there
+abbrev pub next_count : ℕ → ℕ
+next_count n = min (n + 1) LAST_COUNT
+
+-- a count, as long as it is below its last value
+abbrev pub told_count : ℕ → Option ℕ
+told_count n = if nat_lt n LAST_COUNT then Some n else None
 
 -- a count rose, or it stands at its last value
 abbrev pub HasRisen : ℕ → ℕ → Type 0
@@ -15,9 +23,10 @@ pub record HasCause {T E : Type 0} (before now : ℕ) (result : Result T E) : Ty
   pub later : before ≤ now
   pub failed : IsErr result → HasRisen before now
 
--- a count of calls that is told rose by one, or isn't told any more
+-- a count of calls that is told rose by one, or isn't told any more; one that isn't told is not told later
 abbrev pub CountsCall : Option ℕ → Option ℕ → Type 0
-CountsCall None new = Unit {0}
+CountsCall None None = Unit {0}
+CountsCall None (Some m) = ⊥
 CountsCall (Some n) None = Unit {0}
 CountsCall (Some n) (Some m) = m ≡ n + 1
 

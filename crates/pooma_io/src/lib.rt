@@ -5,15 +5,17 @@
 #![tactic(auto)]
 
 mod adapter;
+mod counts;
 mod memory;
-mod read_all;
+mod reading;
+mod shelf;
 mod sink;
 mod source;
 mod sure;
 
 pub use adapter::{ReadSource, WriteSink};
 pub use memory::{MemorySink, MemorySource};
-pub use read_all::{ReadAllError, read_all};
+pub use reading::{ReadAllError, read_all};
 pub use sink::Sink;
 pub use source::{Failed, Source};
 pub use sure::{SureSink, SureSource};

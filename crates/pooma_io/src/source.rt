@@ -1,3 +1,4 @@
+//! What bytes are read from.
 ghost use Rattle.std.specs.Prelude.{◌≤◌, ℕ, List, Option, None, length, IfOk};
 ghost use Rattle.std.specs.Io.KnownBytes.{ReadConsumes};
 ghost use Rattle.pooma_io.specs.Outside.{CountsCall, HasCause};

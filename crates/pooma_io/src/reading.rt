@@ -1,9 +1,10 @@
+//! Reading a source to its end.
 ghost use Rattle.std.specs.Prelude.{◌≡◌, ◌+◌, ◌≤◌, IfOk, OnOk, OnErr, IsErrOf, vec_len};
 ghost use Rattle.std.specs.Io.KnownBytes.{Consumes, IsAtEnd};
 ghost use Rattle.pooma_io.specs.Outside.{CountsAtMost, HasRisen, TakesMoreThan, TakesSome};
 
-use crate::source::Source;
-use std::alloc::Global;
+use crate::source::{Failed, Source};
+use std::alloc::{AllocError, Global};
 use thiserror::Error;
 
 /// Why not all of a source was read.
@@ -17,6 +18,31 @@ pub enum ReadAllError {
     #[error("out of memory")]
     OutOfMemory,
 }
+
+impl From<Failed> for ReadAllError {
+    ghost use Rattle.std.specs.Prelude.{◌≡◌};
+    ghost use Rattle.pooma_io.specs.declared.reading.ReadAllError.TheVariants.{ReadFault};
+
+    ghost from_gives = { λ _ e. e ≡ ReadFault };
+
+    fn from(_: Failed) -> Self {
+        ReadAllError::ReadFault
+    }
+}
+
+impl From<AllocError> for ReadAllError {
+    ghost use Rattle.std.specs.Prelude.{◌≡◌};
+    ghost use Rattle.pooma_io.specs.declared.reading.ReadAllError.TheVariants.{OutOfMemory};
+
+    ghost from_gives = { λ _ e. e ≡ OutOfMemory };
+
+    fn from(_: AllocError) -> Self {
+        ReadAllError::OutOfMemory
+    }
+}
+
+/// How many bytes one read asks for.
+const CHUNK: usize = 4096;
 
 /// All bytes up to the end of the source, at most `limit` of them.
 ///
@@ -35,3 +61,17 @@ pub fn read_all<S: Source>(alloc: Global, source: &mut S, limit: usize) -> Resul
 
     // Each read takes a byte at least, but for the last.
     ensures few_reads { CountsAtMost (S.reads source.old) (S.reads source.new) (limit + 2) }
+{
+    let mut bytes = Vec::new(alloc);
+    let mut buf = [0; CHUNK];
+    loop {
+        let n = source.read(&mut buf)?;
+        if n == 0 {
+            return Ok(bytes);
+        }
+        if n > limit - bytes.len() {
+            return Err(ReadAllError::TooLong);
+        }
+        bytes.extend_from_slice(&buf[..n])?;
+    }
+}
