@@ -119,7 +119,12 @@ impl Model for MemorySink {
 
 impl MemorySink {
     /// An empty sink with room for so many bytes, all of which it takes now.
-    pub fn new(alloc: Global, room: usize, step: usize, failing: Vec<u32>) -> Result<MemorySink, AllocError>
+    pub fn new(
+        alloc: Global,
+        room: usize,
+        step: usize,
+        failing: Vec<u32>,
+    ) -> Result<MemorySink, AllocError>
         requires { 1 ≤ step }
         ensures state { IfOk result (λ sink. sink ≡ record { held = []; room = room; step = step; failing = failing.items; calls = 0; faults = 0 }) }
         ensures held { IfOk result (λ sink. ⟦<MemorySink as Sink>⟧.held sink ≡ Some []) }

@@ -47,7 +47,11 @@ const CHUNK: usize = 4096;
 /// All bytes up to the end of the source, at most `limit` of them.
 ///
 /// After an error the source has lost the bytes that were taken.
-pub fn read_all<S: Source>(alloc: Global, source: &mut S, limit: usize) -> Result<Vec<u8>, ReadAllError>
+pub fn read_all<S: Source>(
+    alloc: Global,
+    source: &mut S,
+    limit: usize,
+) -> Result<Vec<u8>, ReadAllError>
     // All that was left, to its end.
     ensures bytes { IfOk result (λ bytes. Consumes (S.left source.old) (S.left source.new) bytes.items) }
     ensures end { OnOk result (IsAtEnd (S.left source.new)) }
