@@ -1,5 +1,5 @@
 -- What several calls of a source take, one after another.
-use Rattle.std.proofs.Common.{◌≡◌, ℕ, ◌+◌, ◌<◌, ◌≤◌, Option, None, Some, List, [], ◌++◌, length, refl, sym, ap, ◌∙◌, arith, append_assoc, length-append, take, ◌-◌}
+use Rattle.std.proofs.Common.{ℕ, ◌+◌, ◌<◌, ◌≤◌, Option, None, Some, List, [], ◌++◌, length, refl, sym, ap, ◌∙◌, arith, append_assoc, length-append, take, ◌-◌}
 use Rattle.std.proofs.lemmas.List.{length-take}
 use Rattle.std.specs.Io.KnownBytes.{Consumes, Keeps}
 use Rattle.pooma_io.specs.Outside.{CountsCall, CountsAtMost, TakesSome, TakesMoreThan}
