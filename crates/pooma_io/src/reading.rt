@@ -68,7 +68,7 @@ pub fn read_all<S: Source>(
 {
     let mut bytes = Vec::new(alloc);
     let mut buf = [0; CHUNK];
-    loop {
+    'reads: loop {
         let n = source.read(&mut buf)?;
         if n == 0 {
             return Ok(bytes);
