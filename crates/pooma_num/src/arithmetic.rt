@@ -1,5 +1,5 @@
 //! The arithmetic of 64 bits, which answers the exact number or names its fault.
-ghost use Rattle.std.specs.Prelude.{◌≡◌, pos, ◌+ℤ◌, ◌-ℤ◌, ◌*ℤ◌, neg_ℤ, unsigned_abs, int_div, int_rem, IsErrOf};
+ghost use Rattle.std.specs.Prelude.{◌≡◌, ◌↔◌, pos, negsuc, ◌+ℤ◌, ◌-ℤ◌, ◌*ℤ◌, neg_ℤ, unsigned_abs, int_div, int_rem, IsErr, IsErrOf};
 ghost use Rattle.pooma_num.specs.Exact.{IsExact, IsExactDivision};
 
 use crate::fault::FaultKind;
@@ -28,7 +28,8 @@ pub fn mul(a: i64, b: i64) -> Result<i64, FaultKind>
 /// The quotient, cut toward zero. `ZeroDivisor` exactly where `b` is 0, and `Overflow` exactly where the least number is
 /// divided by -1.
 pub fn div(a: i64, b: i64) -> Result<i64, FaultKind>
-    ensures { IsExactDivision result b (int_div a b) }
+    ensures exact { IsExactDivision result b (int_div a b) }
+    ensures overflow { IsErrOf result FaultKind.Overflow ↔ ((a ≡ i64.MIN) × (b ≡ negsuc 0)) }
 {
     if b == 0 {
         return Err(FaultKind::ZeroDivisor);
@@ -50,14 +51,16 @@ pub fn rem(a: i64, b: i64) -> Result<i64, FaultKind>
 
 /// The number with the other sign, or `Overflow` exactly at the least number.
 pub fn neg(a: i64) -> Result<i64, FaultKind>
-    ensures { IsExact result (neg_ℤ a) }
+    ensures exact { IsExact result (neg_ℤ a) }
+    ensures overflow { IsErr result ↔ (a ≡ i64.MIN) }
 {
     a.checked_neg().ok_or(FaultKind::Overflow)
 }
 
 /// The number without its sign, or `Overflow` exactly at the least number.
 pub fn abs(a: i64) -> Result<i64, FaultKind>
-    ensures { IsExact result (pos (unsigned_abs a)) }
+    ensures exact { IsExact result (pos (unsigned_abs a)) }
+    ensures overflow { IsErr result ↔ (a ≡ i64.MIN) }
 {
     a.checked_abs().ok_or(FaultKind::Overflow)
 }

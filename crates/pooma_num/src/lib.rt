@@ -5,6 +5,8 @@
 
 mod arithmetic;
 mod fault;
+#[cfg(test)]
+mod tests;
 mod total;
 
 pub use arithmetic::{abs, add, div, mul, neg, rem, sub};
