@@ -4,12 +4,13 @@
 //! the same in prose.
 #![tactic(auto)]
 
+mod digits;
 mod line;
-mod number;
+mod scan;
 mod span;
 mod token;
 
 pub use line::lines;
-pub use number::{decimal, number};
+pub use digits::{decimal, number};
 pub use span::Span;
 pub use token::{MOST_TOKENS, Token, TokenError, TokenKind, tokens};

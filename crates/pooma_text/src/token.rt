@@ -2,12 +2,16 @@ ghost use Rattle.std.specs.Prelude.{◌≡◌, ◌<◌, ◌≤◌, ◌⊎◌, Li
 ghost use Rattle.pooma_text.specs.declared.token.Token.{Token};
 ghost use Rattle.pooma_text.specs.Tokens.{BeginsWith, HasStray, HasTokens};
 
+use crate::scan::{skip_blanks, token_at};
 use crate::span::Span;
 use std::alloc::Global;
 use thiserror::Error;
 
 /// How many tokens a line may have.
 pub const MOST_TOKENS: usize = 4096;
+
+/// The byte that begins a comment.
+const COMMENT: u8 = b'#';
 
 /// What a token is.
 #[derive(Clone, Copy, Debug, PartialEq, Eq)]
@@ -58,3 +62,68 @@ pub fn tokens(alloc: Global, line: &[u8]) -> Result<Vec<Token>, TokenError>
         → IsErrOf result (TokenError.BadByte place) ⊎ IsErrOf result TokenError.OutOfMemory }
     ensures only_many { (front : List Token) → BeginsWith line.now front → MOST_TOKENS < length front
         → IsErrOf result TokenError.TooMany ⊎ IsErrOf result TokenError.OutOfMemory }
+{
+    let mut found = Vec::new(alloc);
+    let mut at = skip_blanks(line, 0);
+    while at < line.len() && line[at] != COMMENT {
+        let Some(token) = token_at(line, at) else {
+            return Err(TokenError::BadByte { place: at });
+        };
+        if found.len() == MOST_TOKENS {
+            return Err(TokenError::TooMany);
+        }
+        found.push(token).map_err(|_| TokenError::OutOfMemory)?;
+        at = skip_blanks(line, token.span.end);
+    }
+    Ok(found)
+}
+
+#[cfg(test)]
+mod tests {
+    use super::*;
+    use std::test::Fail;
+
+    #[test]
+    fn tokens_of_an_assignment(rt: HostRuntime) -> Result<(), Fail> {
+        let found = tokens(rt.alloc(), b"A[1] = -2 # x")?;
+        let expected = [
+            (TokenKind::Word, 0, 1),
+            (TokenKind::Sign, 1, 2),
+            (TokenKind::Number, 2, 3),
+            (TokenKind::Sign, 3, 4),
+            (TokenKind::Sign, 5, 6),
+            (TokenKind::Sign, 7, 8),
+            (TokenKind::Number, 8, 9),
+        ];
+        let mut places = Vec::new(rt.alloc());
+        for token in &found {
+            places.push((token.kind, token.span.start, token.span.end))?;
+        }
+        assert_eq!(rt; places.as_slice(), expected.as_slice());
+        Ok(())
+    }
+
+    // What the language says of a line of one byte.
+    #[test]
+    fn lines_of_one_byte(rt: HostRuntime) -> Result<(), Fail> {
+        for byte in 0..=255u8 {
+            let found = tokens(rt.alloc(), &[byte]);
+            let kind = match byte {
+                b' ' | b'\t' | b'\r' | b'#' => {
+                    assert_eq!(rt; found?.len(), 0);
+                    continue;
+                }
+                b'A'..=b'Z' | b'a'..=b'z' => TokenKind::Word,
+                b'0'..=b'9' => TokenKind::Number,
+                b'(' | b')' | b'[' | b']' | b',' | b':' | b'=' | b'+' | b'-' | b'*' | b'/' | b'%' | b'<' | b'>' | b'&' | b'|' | b'@' => TokenKind::Sign,
+                _ => {
+                    assert_eq!(rt; found.err(), Some(TokenError::BadByte { place: 0 }));
+                    continue;
+                }
+            };
+            let span = Span { start: 0, end: 1 };
+            assert_eq!(rt; found?.as_slice(), [Token { kind, span }].as_slice());
+        }
+        Ok(())
+    }
+}
