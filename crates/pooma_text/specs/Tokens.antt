@@ -53,6 +53,11 @@ abbrev pub Runs : List ℕ → ℕ → List Token → ℕ → Type 0
 Runs line from [] to = AreBlanks line from to
 Runs line from (t ∷ tokens) to = AreBlanks line from t.span.start × IsLongest line t × Runs line t.span.end tokens to
 
+-- no token begins at a place
+abbrev pub BeginsNoToken : List ℕ → ℕ → Type 0
+BeginsNoToken line at = (kind : TokenKind) (end : ℕ) → at ≤ end → end ≤ length line
+    → IsToken kind (text_at line (record { start = at; end = end })) → ⊥
+
 -- nothing but a comment is left of the line
 abbrev pub IsEndAt : List ℕ → ℕ → Type 0
 IsEndAt line at = (at ≡ length line) ⊎ ((at < length line) × (slice_index line at ≡ COMMENT))
@@ -62,8 +67,7 @@ pub record IsStrayAt (line : List ℕ) (at : ℕ) : Type 0 where
   pub within : at < length line
   pub not_blank : IsBlank (slice_index line at) → ⊥
   pub no_comment : slice_index line at ≢ COMMENT
-  pub no_token : (kind : TokenKind) (end : ℕ) → at ≤ end → end ≤ length line
-    → IsToken kind (text_at line (record { start = at; end = end })) → ⊥
+  pub no_token : BeginsNoToken line at
 
 -- the line has these tokens, and beside them blanks and maybe a comment
 abbrev pub HasTokens : List ℕ → List Token → Type 0

@@ -5,11 +5,13 @@
 #![tactic(auto)]
 
 mod digits;
+mod law;
 mod line;
 mod scan;
 mod span;
 mod token;
 
+pub use law::one_reading;
 pub use line::lines;
 pub use digits::{decimal, number};
 pub use span::Span;
