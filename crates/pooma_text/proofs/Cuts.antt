@@ -121,31 +121,31 @@ module _ (bytes : List ℕ) (start at : ℕ) (forward : start ≤ at) (within : 
   part_has_no_end : ((k : ℕ) → start ≤ k → k < at → get_or bytes k 0 ≢ LINE_END) → All (λ b. b ≢ LINE_END) (take (at - start) (drop start bytes))
   part_has_no_end no_end =
       All-from_get_or (λ b. b ≢ LINE_END) _ 0 (λ i lt e.
-          let below : i < at - start = omega (arith, length_part) in
-          no_end (start + i) (omega arith) (omega arith) (sym (get_or-take (at - start) (drop start bytes) i 0 below ∙ get_or-drop start bytes i 0) ∙ e))
+      let below : i < at - start = omega (arith, length_part) in
+      no_end (start + i) (omega arith) (omega arith) (sym (get_or-take (at - start) (drop start bytes) i 0 below ∙ get_or-drop start bytes i 0) ∙ e))
 
 -- a byte that ends a line
 pub cut_line : (bytes : List ℕ) (spans : List Span) (start at : ℕ) → IsCutSoFar bytes spans start at → at < length bytes → get_or bytes at 0 ≡ LINE_END
-  → IsCutSoFar bytes (spans ++ record { start = start; end = at } ∷ []) (at + 1) (at + 1)
+    → IsCutSoFar bytes (spans ++ record { start = start; end = at } ∷ []) (at + 1) (at + 1)
 cut_line bytes spans start at cut within here = record {
   forward = omega arith;
   no_end = λ k low high. absurd (omega arith);
   joined =
-    let part : List ℕ = take (at - start) (drop start bytes) in
-    let back : List ℕ = drop (at + 1) bytes in
-    let forward : start ≤ at = cut.forward in
-    let behind : drop (at - start) (drop start bytes) ≡ LINE_END ∷ back =
-    drop-drop (at - start) start bytes ∙ ap (λ k. drop k bytes) (let same : start + (at - start) ≡ at = omega arith in same) ∙ drop_more bytes at 0 within ∙ ap (λ b. b ∷ back) here in
-    let split : drop start bytes ≡ part ++ LINE_END ∷ back = sym (take-append-drop (at - start) (drop start bytes)) ∙ ap (λ l. part ++ l) behind in
-    let cuts : lines_of (drop start bytes) ≡ part ∷ lines_of back = ap lines_of split ∙ lines_of-line part back (part_has_no_end bytes start at forward (omega arith) cut.no_end) in
-    let places : spans_from start (lines_of (drop start bytes)) ≡ record { start = start; end = at } ∷ spans_from (at + 1) (lines_of back) =
-    ap (spans_from start) cuts ∙ ap (λ (e : ℕ). record { start = start; end = e } ∷ spans_from (e + 1) (lines_of back)) (ends_at bytes start at forward (omega arith)) in
-    append_assoc spans _ _ ∙ sym (ap (λ l. spans ++ l) places) ∙ cut.joined;
+      let part : List ℕ = take (at - start) (drop start bytes) in
+      let back : List ℕ = drop (at + 1) bytes in
+      let forward : start ≤ at = cut.forward in
+      let behind : drop (at - start) (drop start bytes) ≡ LINE_END ∷ back =
+      drop-drop (at - start) start bytes ∙ ap (λ k. drop k bytes) (let same : start + (at - start) ≡ at = omega arith in same) ∙ drop_more bytes at 0 within ∙ ap (λ b. b ∷ back) here in
+      let split : drop start bytes ≡ part ++ LINE_END ∷ back = sym (take-append-drop (at - start) (drop start bytes)) ∙ ap (λ l. part ++ l) behind in
+      let cuts : lines_of (drop start bytes) ≡ part ∷ lines_of back = ap lines_of split ∙ lines_of-line part back (part_has_no_end bytes start at forward (omega arith) cut.no_end) in
+      let places : spans_from start (lines_of (drop start bytes)) ≡ record { start = start; end = at } ∷ spans_from (at + 1) (lines_of back) =
+      ap (spans_from start) cuts ∙ ap (λ (e : ℕ). record { start = start; end = e } ∷ spans_from (e + 1) (lines_of back)) (ends_at bytes start at forward (omega arith)) in
+      append_assoc spans _ _ ∙ sym (ap (λ l. spans ++ l) places) ∙ cut.joined;
 }
 
 -- the last line, which has no line end
 pub cut_last : (bytes : List ℕ) (spans : List Span) (start at : ℕ) → IsCutSoFar bytes spans start at → length bytes ≤ at → start < length bytes
-  → spans ++ record { start = start; end = length bytes } ∷ [] ≡ spans_from 0 (lines_of bytes)
+    → spans ++ record { start = start; end = length bytes } ∷ [] ≡ spans_from 0 (lines_of bytes)
 cut_last bytes spans start at cut past within =
     let rest : List ℕ = drop start bytes in
     let length_rest : length rest ≡ length bytes - start = length-drop start bytes in

@@ -1,4 +1,5 @@
 pub mod Cuts
+pub mod Longest
 pub mod Readings
 pub mod TokenBytes
 pub mod Values

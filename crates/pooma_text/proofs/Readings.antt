@@ -16,10 +16,10 @@ same_end : (line : List ℕ) (from a b : ℕ) → AreBlanks line from a → AreB
 same_end line from a b h k no_a no_b =
     ⊎_elim (λ e. e)
     (λ less.
-        ⊎_elim
-        (λ lt. let within : b ≤ length line = k.within in absurd (no_a (omega arith) (k.each a h.forward lt)))
-        (λ lt. let within : a ≤ length line = h.within in absurd (no_b (omega arith) (h.each b k.forward lt)))
-        less)
+    ⊎_elim
+    (λ lt. let within : b ≤ length line = k.within in absurd (no_a (omega arith) (k.each a h.forward lt)))
+    (λ lt. let within : a ≤ length line = h.within in absurd (no_b (omega arith) (h.each b k.forward lt)))
+    less)
     (cases_order a b)
 
 module _ (line : List ℕ) (t : Token) (h : IsLongest line t) where
@@ -67,7 +67,7 @@ no_token_behind line from at t h stop k longest =
 
 -- Two runs of tokens from one place, of which the first stops: the second is no longer, and the same if it stops too.
 pub runs_agree : (line : List ℕ) (from : ℕ) (ts us : List Token) (a b : ℕ) → Runs line from ts a → IsStopAt line a → Runs line from us b
-  → (length us ≤ length ts) × (IsStopAt line b → (ts ≡ us) × (a ≡ b))
+    → (length us ≤ length ts) × (IsStopAt line b → (ts ≡ us) × (a ≡ b))
 runs_agree line from [] [] a b h stop k = (omega arith, λ other. (refl, same_end line from a b h k stop.no_blank other.no_blank))
 runs_agree line from [] (u ∷ us) a b h stop k = absurd (no_token_behind line from a u h stop k.0 k.1)
 runs_agree line from (t ∷ ts) [] a b h stop k = (omega arith, λ other. absurd (no_token_behind line from b t k other h.0 h.1))
@@ -103,3 +103,17 @@ begins-at_most line all front h k = (runs_agree line 0 all front h.0 k.0 h.1 (st
 
 pub begins-at_most_stray : (line : List ℕ) (before front : List Token) (place : ℕ) → HasStray line before place → BeginsWith line front → length front ≤ length before
 begins-at_most_stray line before front place h k = (runs_agree line 0 before front place k.0 h.0 (stop-stray line place h.1) k.1).0
+
+-- one token more
+pub Runs-push : (line : List ℕ) (from : ℕ) (ts : List Token) (t : Token) (a b : ℕ) → Runs line from ts a → t.span.start ≡ a → IsLongest line t → AreBlanks line t.span.end b → Runs line from (ts ++ t ∷ []) b
+Runs-push line from [] t a b h start longest blanks = (subst (AreBlanks line from) (sym start) h, longest, blanks)
+Runs-push line from (u ∷ ts) t a b h start longest blanks = (h.0, h.1, Runs-push line u.span.end ts t a b h.2 start longest blanks)
+
+pub begins-push : (line : List ℕ) (ts : List Token) (t : Token) (a : ℕ) → Runs line 0 ts a → t.span.start ≡ a → IsLongest line t → BeginsWith line (ts ++ t ∷ [])
+begins-push line ts t a h start longest =
+    let none : AreBlanks line t.span.end t.span.end = record { forward = omega arith; within = longest.within; each = λ k low high. absurd (omega arith) } in
+    (t.span.end, Runs-push line 0 ts t a t.span.end h start longest none)
+
+pub Runs-within : (line : List ℕ) (from : ℕ) (ts : List Token) (to : ℕ) → Runs line from ts to → to ≤ length line
+Runs-within line from [] to h = h.within
+Runs-within line from (t ∷ ts) to h = Runs-within line t.span.end ts to h.2

@@ -92,10 +92,10 @@ part-cons line start end some within =
     let width : end - start ≡ suc (end - (start + 1)) = omega arith in
     (λ i. take (width i) (drop_more line start 0 (omega arith) i))
 
-part_none : (line : List ℕ) (start end : ℕ) → end ≤ start → slice_range line start end ≡ []
+pub part_none : (line : List ℕ) (start end : ℕ) → end ≤ start → slice_range line start end ≡ []
 part_none line start end none = let width : end - start ≡ 0 = omega arith in ap (λ n. take n (drop start line)) width
 
-length-part : (line : List ℕ) (start end : ℕ) → end ≤ length line → length (slice_range line start end) ≡ end - start
+pub length-part : (line : List ℕ) (start end : ℕ) → end ≤ length line → length (slice_range line start end) ≡ end - start
 length-part line start end within = length-take-le (end - start) (drop start line) (omega (arith, length-drop start line))
 
 -- a byte of a part
@@ -110,8 +110,8 @@ module _ (P : ℕ → Type 0) (line : List ℕ) (start end : ℕ) (within : end 
   pub All-part : ((k : ℕ) → start ≤ k → k < end → P (get_or line k 0)) → All P (slice_range line start end)
   All-part each =
       All-from_get_or P _ 0 (λ i lt.
-          let below : i < end - start = omega (arith, length-part line start end within) in
-          subst P (sym (get_or-take (end - start) (drop start line) i 0 below ∙ get_or-drop start line i 0)) (each (start + i) (omega arith) (omega arith)))
+      let below : i < end - start = omega (arith, length-part line start end within) in
+      subst P (sym (get_or-take (end - start) (drop start line) i 0 below ∙ get_or-drop start line i 0)) (each (start + i) (omega arith) (omega arith)))
 
   pub All-part_at : (k : ℕ) → start ≤ k → k < end → All P (slice_range line start end) → P (get_or line k 0)
   All-part_at k low high all =

@@ -46,7 +46,7 @@ pub record IsLongest (line : List ℕ) (token : Token) : Type 0 where
   pub within : token.span.end ≤ length line
   pub fits : IsToken token.kind (text_at line token.span)
   pub longest : (kind : TokenKind) (end : ℕ) → end ≤ length line
-    → IsToken kind (text_at line (record { start = token.span.start; end = end })) → end ≤ token.span.end
+      → IsToken kind (text_at line (record { start = token.span.start; end = end })) → end ≤ token.span.end
 
 -- from a place up to another the line has these tokens one after another, and blanks alone beside them
 abbrev pub Runs : List ℕ → ℕ → List Token → ℕ → Type 0

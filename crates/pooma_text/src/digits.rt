@@ -14,7 +14,9 @@ pub fn number(digits: &[u8]) -> Option<i64>
 {
     let mut value: u64 = 0;
     for digit in digits {
-        value = value.checked_mul(10)?.checked_add(u64::from(*digit - b'0'))?;
+        value = value
+            .checked_mul(10)?
+            .checked_add(u64::from(*digit - b'0'))?;
     }
     i64::try_from(value).ok()
 }
@@ -39,7 +41,10 @@ mod tests {
         assert_eq!(rt; number(b"007"), Some(7));
         assert_eq!(rt; number(b"9223372036854775807"), Some(i64::MAX));
         assert_eq!(rt; number(b"9223372036854775808"), None);
-        assert_eq!(rt; number(b"00000000000000000000009223372036854775807"), Some(i64::MAX));
+        assert_eq!(rt;
+            number(b"00000000000000000000009223372036854775807"),
+            Some(i64::MAX)
+        );
         assert_eq!(rt; number(&[b'9'; 200]), None);
         assert_eq!(rt; number(&[b'0'; 200]), Some(0));
     }
@@ -51,7 +56,10 @@ mod tests {
             decimal(rt.alloc(), &mut out, value)?;
             out.push(b' ')?;
         }
-        assert_eq!(rt; out.as_slice(), b"-9223372036854775808 0 9223372036854775807 ".as_slice());
+        assert_eq!(rt;
+            out.as_slice(),
+            b"-9223372036854775808 0 9223372036854775807 ".as_slice()
+        );
         Ok(())
     }
 }

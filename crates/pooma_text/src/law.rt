@@ -12,5 +12,4 @@ pub fn one_reading()
         → (a ≡ b) × (p ≡ q) }
     ensures never_both { (line : List ℕ) (before all : List Token) (place : ℕ) → HasStray line before place
         → HasTokens line all → ⊥ }
-{
-}
+{}

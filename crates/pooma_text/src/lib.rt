@@ -11,8 +11,8 @@ mod scan;
 mod span;
 mod token;
 
+pub use digits::{decimal, number};
 pub use law::one_reading;
 pub use line::lines;
-pub use digits::{decimal, number};
 pub use span::Span;
 pub use token::{MOST_TOKENS, Token, TokenError, TokenKind, tokens};

@@ -1,8 +1,9 @@
 //! Where blanks and single tokens end.
-ghost use Rattle.std.specs.Prelude.{◌≡◌, ℕ, ◌+◌, ◌<◌, ◌≤◌, ◌↔◌, [], ◌∷◌, length, slice_index, Contains, IsTrue, IfSome, MatchOption};
+ghost use Rattle.std.specs.Prelude.{◌≡◌, ℕ, ◌+◌, ◌<◌, ◌≤◌, ◌↔◌, [], ◌∷◌, length, slice_index, Contains, IsTrue, IfSome, IsNone, IsSomeAnd};
 ghost use Rattle.std.specs.Char.{IsAsciiAlphanumeric, IsAsciiDigit};
+ghost use Rattle.pooma_text.specs.Lines.{text_at};
 ghost use Rattle.pooma_text.specs.Signs.{double_signs, single_signs};
-ghost use Rattle.pooma_text.specs.Tokens.{AreBlanks, IsBlank, IsLongest};
+ghost use Rattle.pooma_text.specs.Tokens.{AreBlanks, BeginsNoToken, IsBlank, IsLongest, IsSign};
 
 use crate::span::Span;
 use crate::token::{Token, TokenKind};
@@ -66,9 +67,13 @@ fn number_end(line: &[u8], from: usize) -> usize
     at
 }
 
-/// The end of the longest sign that begins at a place.
+/// The end of the longest sign that begins at a place, or None where none does.
 fn sign_end(line: &[u8], at: usize) -> Option<usize>
     requires { at < length line.now }
+    ensures fits { IfSome result (λ end.
+        (end ≤ length line.now) × IsSign (text_at line.now (record { start = at; end = end }))) }
+    ensures longest { (end : ℕ) → end ≤ length line.now
+        → IsSign (text_at line.now (record { start = at; end = end })) → IsSomeAnd result (λ found. end ≤ found) }
 {
     if at + 1 < line.len() && is_double_sign(line[at], line[at + 1]) {
         Some(at + 2)
@@ -82,6 +87,8 @@ fn sign_end(line: &[u8], at: usize) -> Option<usize>
 /// The longest token that begins at a place, or None where none does.
 pub(crate) fn token_at(line: &[u8], at: usize) -> Option<Token>
     requires { at < length line.now }
+    ensures longest { IfSome result (λ token. (token.span.start ≡ at) × IsLongest line.now token) }
+    ensures none { IsNone result → BeginsNoToken line.now at }
 {
     let first = line[at];
     let (kind, end) = if first.is_ascii_alphabetic() {

@@ -10,9 +10,6 @@ use thiserror::Error;
 /// How many tokens a line may have.
 pub const MOST_TOKENS: usize = 4096;
 
-/// The byte that begins a comment.
-const COMMENT: u8 = b'#';
-
 /// What a token is.
 #[derive(Clone, Copy, Debug, PartialEq, Eq)]
 pub enum TokenKind {
@@ -65,7 +62,7 @@ pub fn tokens(alloc: Global, line: &[u8]) -> Result<Vec<Token>, TokenError>
 {
     let mut found = Vec::new(alloc);
     let mut at = skip_blanks(line, 0);
-    while at < line.len() && line[at] != COMMENT {
+    while at < line.len() && line[at] != b'#' {
         let Some(token) = token_at(line, at) else {
             return Err(TokenError::BadByte { place: at });
         };
@@ -115,7 +112,23 @@ mod tests {
                 }
                 b'A'..=b'Z' | b'a'..=b'z' => TokenKind::Word,
                 b'0'..=b'9' => TokenKind::Number,
-                b'(' | b')' | b'[' | b']' | b',' | b':' | b'=' | b'+' | b'-' | b'*' | b'/' | b'%' | b'<' | b'>' | b'&' | b'|' | b'@' => TokenKind::Sign,
+                b'('
+                | b')'
+                | b'['
+                | b']'
+                | b','
+                | b':'
+                | b'='
+                | b'+'
+                | b'-'
+                | b'*'
+                | b'/'
+                | b'%'
+                | b'<'
+                | b'>'
+                | b'&'
+                | b'|'
+                | b'@' => TokenKind::Sign,
                 _ => {
                     assert_eq!(rt; found.err(), Some(TokenError::BadByte { place: 0 }));
                     continue;

@@ -7,8 +7,8 @@ use Rattle.pooma_text.proofs.line.lines.Goals.{then-byte-eq10+in_ok-push, else-b
 pub loop-at-preserved : goal.loop-at-preserved
 loop-at-preserved c =
     elim c.if-byte-eq10.branch [
-      then-byte-eq10+in_ok-push w ↦ rw (w.spans-is, w.in_ok-push.ensures.items, w.start-is) (cut_line _ _ _ _ c.loop-at.invariant c.loop-at-test.true w.if-byte-eq10.true)
-    | else-byte-eq10 w ↦ rw (w.spans-is, w.start-is) (cut_more _ _ _ _ c.loop-at.invariant w.if-byte-eq10.false)
+      | then-byte-eq10+in_ok-push w ↦ rw (w.spans-is, w.in_ok-push.ensures.items, w.start-is) (cut_line _ _ _ _ c.loop-at.invariant c.loop-at-test.true w.if-byte-eq10.true)
+      | else-byte-eq10 w ↦ rw (w.spans-is, w.start-is) (cut_more _ _ _ _ c.loop-at.invariant w.if-byte-eq10.false)
     ]
 
 pub returns-in_err-push-clause-cut : goal.returns-in_err-push-clause-cut
@@ -20,8 +20,8 @@ returns-in_err-push-2-clause-cut c = are_lines-lines_of c.args.bytes.now
 pub returns-clause-places : goal.returns-clause-places
 returns-clause-places c =
     elim c.if-start-bytes.branch [
-      then-start-bytes+in_ok-push-2 w ↦ rw (w.spans-is, w.in_ok-push-2.ensures.items) (cut_last _ _ _ _ c.loop-at.invariant c.loop-at-test.false w.if-start-bytes.true)
-    | else-start-bytes w ↦ rw w.spans-is (cut_all _ _ _ _ c.loop-at.invariant w.if-start-bytes.false)
+      | then-start-bytes+in_ok-push-2 w ↦ rw (w.spans-is, w.in_ok-push-2.ensures.items) (cut_last _ _ _ _ c.loop-at.invariant c.loop-at-test.false w.if-start-bytes.true)
+      | else-start-bytes w ↦ rw w.spans-is (cut_all _ _ _ _ c.loop-at.invariant w.if-start-bytes.false)
     ]
 
 pub returns-clause-texts : goal.returns-clause-texts
