@@ -1,14 +1,14 @@
 -- When a token is the longest one where it begins, and when none begins at a place.
-use Rattle.std.proofs.Common.{◌≡◌, ◌≢◌, ℕ, ◌+◌, ◌-◌, ◌<◌, ◌≤◌, ◌⊎◌, inl, inr, List, [], ◌∷◌, length, get_or, refl, sym, ap, ◌∙◌, subst, ⊎_elim, arith}
+use Rattle.std.proofs.Common.{◌≡◌, ℕ, ◌+◌, ◌-◌, ◌<◌, ◌≤◌, ◌⊎◌, inl, inr, List, [], ◌∷◌, length, get_or, sym, ap, ◌∙◌, subst, ⊎_elim, arith}
 use Rattle.std.proofs.lemmas.Bool.{cases_eq, cases_lt}
-use Rattle.std.specs.Prelude.{All, Contains}
+use Rattle.std.specs.Prelude.{Contains}
 use Rattle.std.specs.List.{slice_range}
 use Rattle.std.specs.Char.{IsAsciiAlphabetic, IsAsciiAlphanumeric, IsAsciiDigit}
 use Rattle.pooma_text.specs.declared.token.Token.{Token}
 use Rattle.pooma_text.specs.declared.token.TokenKind.{TokenKind}
 use Rattle.pooma_text.specs.declared.token.TokenKind.TheVariants.{Word, Number, Sign}
 use Rattle.pooma_text.specs.Signs.{double_signs, single_signs}
-use Rattle.pooma_text.specs.Tokens.{BeginsNoToken, IsLongest, IsNumber, IsSign, IsToken, IsWord}
+use Rattle.pooma_text.specs.Tokens.{BeginsNoToken, IsLongest, IsSign, IsToken, IsWord}
 use Rattle.pooma_text.proofs.TokenBytes.{All-part, All-part_at, BeginsKind, length-part, length-sign, part-cons, part_begins, part_none, same_kind}
 
 -- the token of a kind between two places

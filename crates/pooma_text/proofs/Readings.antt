@@ -1,10 +1,10 @@
 -- A line has one reading: its tokens, and the place where they stop, are determined.
-use Rattle.std.proofs.Common.{◌≡◌, ◌≢◌, ℕ, ◌+◌, ◌-◌, ◌<◌, ◌≤◌, ◌⊎◌, inl, inr, List, [], ◌∷◌, ◌++◌, length, get_or, refl, sym, ap, ◌∙◌, subst, ⊎_elim, arith}
-use Rattle.std.proofs.lemmas.Bool.{cases_order, cases_lt}
+use Rattle.std.proofs.Common.{◌≡◌, ℕ, ◌<◌, ◌≤◌, inl, inr, List, [], ◌∷◌, ◌++◌, length, get_or, refl, sym, subst, ⊎_elim, arith}
+use Rattle.std.proofs.lemmas.Bool.{cases_order}
 use Rattle.std.specs.List.{slice_range}
 use Rattle.pooma_text.specs.declared.token.Token.{Token}
 use Rattle.pooma_text.specs.declared.token.TokenKind.{TokenKind}
-use Rattle.pooma_text.specs.Tokens.{AreBlanks, BeginsNoToken, BeginsWith, COMMENT, HasStray, HasTokens, IsBlank, IsEndAt, IsLongest, IsStrayAt, IsToken, Runs}
+use Rattle.pooma_text.specs.Tokens.{AreBlanks, BeginsWith, COMMENT, HasStray, HasTokens, IsBlank, IsEndAt, IsLongest, IsStrayAt, IsToken, Runs}
 use Rattle.pooma_text.proofs.TokenBytes.{BeginsKind, begins_kind-not_blank, begins_kind-not_comment, part_begins, same_kind}
 
 -- no blank stands at a place

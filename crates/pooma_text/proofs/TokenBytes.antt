@@ -1,17 +1,17 @@
 -- What a token's first byte tells of it, and the bytes of a part of a line.
-use Rattle.std.proofs.Common.{◌≡◌, ◌≢◌, ℕ, ◌+◌, ◌-◌, ◌<◌, ◌≤◌, ◌⊎◌, inl, inr, Bool, true, false, not, ◌&&◌, eqb, List, [], ◌∷◌, ◌++◌, length, get_or, take, drop, refl, sym, ap, ◌∙◌, subst, suc, ⊎_elim, arith, length-take-le, length-drop, get_or-take, get_or-drop}
+use Rattle.std.proofs.Common.{◌≡◌, ℕ, ◌+◌, ◌-◌, ◌<◌, ◌≤◌, inl, inr, Bool, true, false, not, ◌&&◌, eqb, List, [], ◌∷◌, length, get_or, take, drop, refl, sym, ap, ◌∙◌, subst, suc, ⊎_elim, arith, length-take-le, length-drop, get_or-take, get_or-drop}
 use Rattle.std.specs.Prelude.{All, Contains}
 use Rattle.std.specs.List.{list_all, slice_range}
 use Rattle.std.specs.Char.{IsAsciiAlphabetic, IsAsciiAlphanumeric, IsAsciiDigit, is_ascii_punctuation}
 use Rattle.std.proofs.lemmas.List.{drop_more}
 use Rattle.std.proofs.lemmas.List.Elements.{All-from_get_or, All-head}
 use Rattle.std.proofs.lemmas.List.Folds.{list_all_at}
-use Rattle.std.proofs.lemmas.Bool.{cases_Bool, cases_lt, false≢true, and_parts, eqb-true}
+use Rattle.std.proofs.lemmas.Bool.{cases_Bool, cases_lt, false≢true, and_parts}
 use Rattle.std.proofs.lemmas.Bool.Decides.{nat_tests}
 use Rattle.pooma_text.specs.declared.token.TokenKind.{TokenKind}
 use Rattle.pooma_text.specs.declared.token.TokenKind.TheVariants.{Word, Number, Sign}
 use Rattle.pooma_text.specs.Signs.{double_signs, single_signs}
-use Rattle.pooma_text.specs.Tokens.{COMMENT, IsBlank, IsNumber, IsSign, IsToken, IsWord}
+use Rattle.pooma_text.specs.Tokens.{COMMENT, IsBlank, IsSign, IsToken}
 
 -- a test that each element passes holds of one that the list contains
 passes-contains : {X : Type 0} (test : X → Bool) (xs : List X) (x : X) → list_all test xs ≡ true → Contains xs x → test x ≡ true

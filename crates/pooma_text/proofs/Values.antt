@@ -1,5 +1,5 @@
 -- Facts on the number that digits stand for.
-use Rattle.std.proofs.Common.{◌≡◌, ℕ, ◌+◌, ◌-◌, ◌*◌, ◌^◌, ◌<◌, ◌≤◌, List, [], ◌∷◌, length, get_or, drop, refl, sym, ap, ◌∙◌, arith, suc, lit<}
+use Rattle.std.proofs.Common.{◌≡◌, ℕ, ◌+◌, ◌-◌, ◌*◌, ◌^◌, ◌<◌, ◌≤◌, List, ◌∷◌, length, get_or, drop, sym, ap, ◌∙◌, arith, suc, lit<}
 use Rattle.std.proofs.Math.Nat.{pow-suc, one-le-pow, mul_comm, mul_assoc, add-mul, le-mul_of_pos_right}
 use Rattle.std.proofs.lemmas.List.{drop_more}
 use Rattle.pooma_text.specs.Number.{value_of}

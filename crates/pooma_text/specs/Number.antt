@@ -1,6 +1,5 @@
 -- The number that decimal digits stand for.
-use Rattle.std.specs.Prelude.{ℕ, ◌+◌, ◌-◌, ◌*◌, ◌^◌, List, [], ◌∷◌, length, All}
-use Rattle.std.specs.Char.{IsAsciiDigit}
+use Rattle.std.specs.Prelude.{ℕ, ◌+◌, ◌-◌, ◌*◌, ◌^◌, List, [], ◌∷◌, length}
 
 -- each digit counts ten times as much as the one behind it
 abbrev pub value_of : List ℕ → ℕ

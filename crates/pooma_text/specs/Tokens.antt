@@ -1,5 +1,5 @@
 -- The tokens of a line: words, numbers and signs, each the longest that fits, with blanks between them.
-use Rattle.std.specs.Prelude.{◌≡◌, ◌≢◌, ◌⊎◌, ℕ, ◌+◌, ◌<◌, ◌≤◌, List, [], ◌∷◌, length, slice_index, All, Contains}
+use Rattle.std.specs.Prelude.{◌≡◌, ◌≢◌, ◌⊎◌, ℕ, ◌<◌, ◌≤◌, List, [], ◌∷◌, length, slice_index, All, Contains}
 use Rattle.std.specs.Char.{IsAsciiAlphabetic, IsAsciiAlphanumeric, IsAsciiDigit}
 use Rattle.pooma_text.specs.declared.token.Token.{Token}
 use Rattle.pooma_text.specs.declared.token.TokenKind.{TokenKind}

@@ -41,10 +41,7 @@ mod tests {
         assert_eq!(rt; number(b"007"), Some(7));
         assert_eq!(rt; number(b"9223372036854775807"), Some(i64::MAX));
         assert_eq!(rt; number(b"9223372036854775808"), None);
-        assert_eq!(rt;
-            number(b"00000000000000000000009223372036854775807"),
-            Some(i64::MAX)
-        );
+        assert_eq!(rt; number(b"0009223372036854775807"), Some(i64::MAX));
         assert_eq!(rt; number(&[b'9'; 200]), None);
         assert_eq!(rt; number(&[b'0'; 200]), Some(0));
     }

@@ -2,8 +2,8 @@ ghost use Rattle.std.specs.Prelude.{◌≡◌, ℕ, List};
 ghost use Rattle.pooma_text.specs.declared.token.Token.{Token};
 ghost use Rattle.pooma_text.specs.Tokens.{HasStray, HasTokens};
 
-/// The law that a line has one reading: either one list of tokens, or one first byte that begins no token with
-/// one list of tokens before it.
+/// The law that a line has one reading: at most one list of tokens, at most one first byte that begins no token,
+/// with one list of tokens before it, and never both.
 ///
 /// It does nothing; its contract is for proofs about what a line says.
 pub fn one_reading()

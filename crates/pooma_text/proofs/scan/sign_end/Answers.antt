@@ -1,4 +1,4 @@
-use Rattle.std.proofs.Common.{◌+◌, ◌<◌, ◌≤◌, length, ⊎_elim, arith}
+use Rattle.std.proofs.Common.{◌+◌, ◌≤◌, length, ⊎_elim, arith}
 use Rattle.std.proofs.lemmas.Bool.{iff_false}
 use Rattle.pooma_text.proofs.Longest.{sign_ends, single_sign}
 use Rattle.pooma_text.proofs.scan.sign_end.Goals as goal

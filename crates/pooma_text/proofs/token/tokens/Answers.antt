@@ -1,14 +1,13 @@
-use Rattle.std.proofs.Common.{◌≡◌, ◌<◌, ◌≤◌, ◌⊎◌, inl, inr, List, ℕ, length, [], ◌∷◌, ◌++◌, ap, ◌∙◌, is_ok, sym, subst, arith, rules, vec_len, Err, refl}
+use Rattle.std.proofs.Common.{◌≡◌, ◌<◌, inl, inr, List, ℕ, length, [], ◌∷◌, ◌++◌, ap, ◌∙◌, is_ok, sym, arith, rules, Err, refl}
 use Rattle.std.proofs.lemmas.Bool.{cond-true}
 use Rattle.std.proofs.lemmas.List.{length_push}
 use Rattle.pooma_text.specs.declared.token.Token.{Token}
 use Rattle.pooma_text.specs.declared.token.TokenError.TheVariants.{BadByte}
-use Rattle.pooma_text.specs.Tokens.{BeginsWith, HasStray, HasTokens, IsStrayAt}
+use Rattle.pooma_text.specs.Tokens.{BeginsWith, HasStray}
 use Rattle.pooma_text.proofs.Readings.{Runs-push, Runs-within, begins-at_most, begins-at_most_stray, begins-push, no_list-stray, one_list, one_stray}
 use Rattle.pooma_text.proofs.token.tokens.Goals as goal
 use Rattle.pooma_text.proofs.token.tokens.Goals.{then-loop-at-test+else-line-at-ne35, else-loop-at-test}
 
--- src/token.rt:70:13
 pub returns-in_default-clause-only_found : goal.returns-in_default-clause-only_found
 returns-in_default-clause-only_found c = λ all list few.
     let stray : HasStray c.args.line.now c.loop-at.found.items c.loop-at.at = search rules in
