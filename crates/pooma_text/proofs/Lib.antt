@@ -1,4 +1,5 @@
 pub mod Cuts
+pub mod Existence
 pub mod Longest
 pub mod Readings
 pub mod TokenBytes

@@ -23,7 +23,7 @@ same_end line from a b h k no_a no_b =
     (cases_order a b)
 
 module _ (line : List ℕ) (t : Token) (h : IsLongest line t) where
-  begins : (t.span.start < t.span.end) × BeginsKind t.kind (get_or line t.span.start 0)
+  pub begins : (t.span.start < t.span.end) × BeginsKind t.kind (get_or line t.span.start 0)
   begins = part_begins t.kind line t.span.start t.span.end h.within h.fits
 
   token_no_blank : NoBlankAt line t.span.start
