@@ -1,19 +1,27 @@
 -- Cells, the boxes that are sets of them, and the order in which the first index is fastest.
-use Rattle.std.specs.Prelude.{◌≡◌, ◌⊎◌, ℕ, zero, suc, ℤ, pos, ◌+ℤ◌, ◌-ℤ◌, ◌≤ℤ◌, ◌<ℤ◌, nat_abs, List, [], ◌∷◌, map, flat_map}
+use Rattle.std.specs.Prelude.{◌≡◌, ◌⊎◌, ℕ, zero, suc, ◌^◌, ◌<◌, ◌≤◌, ℤ, pos, negsuc, neg_ℤ, ◌+ℤ◌, ◌-ℤ◌, ◌≤ℤ◌, ◌<ℤ◌, List, [], ◌∷◌, length, map, flat_map, All}
 
--- the whole numbers from a first to a last one, as an axis of a box has them
+-- the whole numbers from a first to a last one, as an axis of a box has them; none where the last is below the first
 pub record Interval : Type 0 where
   pub first : ℤ
   pub last : ℤ
+
+abbrev pub interval : ℤ → ℤ → Interval
+interval first last = record { first = first; last = last }
+
+-- how many a whole number counts: none where it is negative
+abbrev pub count_of : ℤ → ℕ
+count_of (pos n) = n
+count_of (negsuc n) = 0
 
 -- so many whole numbers in a row
 abbrev pub counting : ℤ → ℕ → List ℤ
 counting first zero = []
 counting first (suc n) = first ∷ counting (first +ℤ pos 1) n
 
--- how many numbers an axis has, where its first is not above its last
+-- how many numbers an axis has
 abbrev pub axis_length : Interval → ℕ
-axis_length axis = nat_abs ((axis.last -ℤ axis.first) +ℤ pos 1)
+axis_length axis = count_of ((axis.last -ℤ axis.first) +ℤ pos 1)
 
 -- the numbers of an axis in order
 abbrev pub coordinates : Interval → List ℤ
@@ -36,3 +44,15 @@ abbrev pub IsBefore : List ℤ → List ℤ → Type 0
 IsBefore [] ys = ⊥
 IsBefore (x ∷ xs) [] = ⊥
 IsBefore (x ∷ xs) (y ∷ ys) = IsBefore xs ys ⊎ ((xs ≡ ys) × (x <ℤ y))
+
+-- an axis has a number, and all its numbers lie within plus and minus 4,000,000
+pub record IsAxis (axis : Interval) : Type 0 where
+  pub ordered : axis.first ≤ℤ axis.last
+  pub low : neg_ℤ (pos 4000000) ≤ℤ axis.first
+  pub high : axis.last ≤ℤ pos 4000000
+
+-- a box has at most three axes, and its number of cells is that of a signed number of 64 bits
+pub record IsBox (axes : List Interval) : Type 0 where
+  pub few : length axes ≤ 3
+  pub whole : All IsAxis axes
+  pub countable : length (cells_of axes) < 2 ^ 63

@@ -1,1 +1,3 @@
+pub mod Axes
 pub mod Cells
+pub mod Padding

@@ -1,2 +1,12 @@
 //! Cells, axes and boxes: sets of cells in an order in which the first index is fastest.
 #![tactic(auto)]
+
+mod axes;
+mod boxes;
+mod cells;
+mod order;
+
+pub use axes::Axis;
+pub use boxes::BoxN;
+pub use cells::Cell;
+pub use order::order_of_cells;

@@ -1,0 +1,105 @@
+ghost use Rattle.std.specs.Prelude.{◌≡◌, ◌<◌, ◌≤◌, Some, [], ◌∷◌, length, slice_get};
+
+use std::marker::Model;
+
+/// A cell: a list of 0 to 3 coordinates, one for each axis of the boxes that it may lie in.
+#[derive(Clone, Copy, Debug)]
+pub struct Cell {
+    pub(crate) x: i32,
+    pub(crate) y: i32,
+    pub(crate) z: i32,
+    pub(crate) dims: usize,
+}
+
+impl Model for Cell {
+    ghost use Rattle.std.specs.Prelude.{ℤ, pos, List, [], ◌∷◌, length, slice_index_or, take};
+
+    ghost Value = { List ℤ };
+
+    ghost use Rattle.pooma_domain.specs.Padding.{IsPaddedCell, length-padded, first-padded, second-padded, third-padded};
+
+    ghost view = { λ c. take c.dims (c.x ∷ c.y ∷ c.z ∷ []) };
+
+    // Coordinates past the cell's dims are 0.
+    ghost invariant = { λ c. IsPaddedCell c.dims c.x c.y c.z };
+
+    ghost inverse = { λ xs. record {
+      dims = length xs;
+      x = slice_index_or xs 0 (pos 0);
+      y = slice_index_or xs 1 (pos 0);
+      z = slice_index_or xs 2 (pos 0);
+    } };
+
+    ghost inverse_ok = { λ c h. Prim.rw (
+      length-padded c.dims c.x c.y c.z h.few,
+      first-padded c.dims c.x c.y c.z (pos 0) h.few h.no_x,
+      second-padded c.dims c.x c.y c.z (pos 0) h.few h.no_y,
+      third-padded c.dims c.x c.y c.z (pos 0) h.few h.no_z,
+    ) };
+}
+
+impl Cell {
+    /// The cell of no coordinates.
+    pub fn none() -> Cell
+        ensures { result ≡ [] }
+    {
+        Cell {
+            dims: 0,
+            x: 0,
+            y: 0,
+            z: 0,
+        }
+    }
+
+    /// The cell of one coordinate.
+    pub fn of1(a: i32) -> Cell
+        ensures { result ≡ a ∷ [] }
+    {
+        Cell {
+            dims: 1,
+            x: a,
+            y: 0,
+            z: 0,
+        }
+    }
+
+    /// The cell of two coordinates.
+    pub fn of2(a: i32, b: i32) -> Cell
+        ensures { result ≡ a ∷ b ∷ [] }
+    {
+        Cell {
+            dims: 2,
+            x: a,
+            y: b,
+            z: 0,
+        }
+    }
+
+    /// The cell of three coordinates.
+    pub fn of3(a: i32, b: i32, c: i32) -> Cell
+        ensures { result ≡ a ∷ b ∷ c ∷ [] }
+    {
+        Cell {
+            dims: 3,
+            x: a,
+            y: b,
+            z: c,
+        }
+    }
+
+    /// How many coordinates the cell has.
+    pub fn dims(&self) -> usize
+        ensures value { result ≡ length self.now }
+        ensures few { result ≤ 3 }
+    {
+        self.dims
+    }
+
+    /// The coordinate on this axis, counted from 0.
+    pub fn at(&self, axis: usize) -> i32
+        requires { axis < length self.now }
+        ensures { slice_get self.now axis ≡ Some result }
+    {
+        [self.x, self.y, self.z][axis]
+    }
+}
