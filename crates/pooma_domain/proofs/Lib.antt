@@ -1,2 +1,4 @@
+pub mod BoxSets
 pub mod CellOrder
 pub mod PaddedBox
+pub mod PaddedMoves

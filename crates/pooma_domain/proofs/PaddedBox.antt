@@ -6,6 +6,7 @@ use Rattle.std.proofs.Math.Nat.{mul_comm, le-mul_of_pos_right, mod-eq_of_lt}
 use Rattle.std.specs.Prelude.{◌≡◌, ◌≢◌, ◌↔◌, ℕ, zero, suc, ◌+◌, ◌*◌, ◌/◌, ◌%◌, ◌^◌, ◌<◌, ◌≤◌, ℤ, pos, neg_ℤ, ◌+ℤ◌, ◌-ℤ◌, ◌≤ℤ◌, Some, List, [], ◌∷◌, length, slice_get, take}
 use Rattle.pooma_domain.specs.Cells.{Interval, count_of, axis_length, cells_of, IsIn, IsAxis, IsBox}
 use Rattle.pooma_domain.specs.Padding.{no_axis, IsPaddedBox, IsPaddedCell, length-padded}
+use Rattle.pooma_domain.proofs.BoxSets.{Holds}
 use Rattle.pooma_domain.proofs.CellOrder.{place, cell_of, length-cells_of, count_of_from_zero, quotient_below, place_below}
 
 -- the number of cells of all three axes
@@ -37,10 +38,6 @@ box_from_padded d x y z h = record {
   whole = All-take IsAxis d (x ∷ y ∷ z ∷ []) (All-cons IsAxis x (y ∷ z ∷ []) h.x_axis (All-cons IsAxis y (z ∷ []) h.y_axis (All-cons IsAxis z [] h.z_axis (All-nil IsAxis))));
   countable = rw (length-cells-box d x y z h) h.countable;
 }
-
--- a coordinate lies on the axis
-abbrev pub Holds : Interval → ℤ → Type 0
-Holds axis x = (axis.first ≤ℤ x) × (x ≤ℤ axis.last)
 
 pub zero_on_no_axis : (axis : Interval) (x : ℤ) → axis ≡ no_axis → x ≡ pos 0 → Holds axis x
 zero_on_no_axis axis x e f = (omega (arith, ints, ap (λ (i : Interval). i.first) e), omega (arith, ints, ap (λ (i : Interval). i.last) e))

@@ -45,6 +45,10 @@ IsBefore [] ys = ⊥
 IsBefore (x ∷ xs) [] = ⊥
 IsBefore (x ∷ xs) (y ∷ ys) = IsBefore xs ys ⊎ ((xs ≡ ys) × (x <ℤ y))
 
+-- the axis has a number
+abbrev pub IsOrdered : Interval → Type 0
+IsOrdered axis = axis.first ≤ℤ axis.last
+
 -- an axis has a number, and all its numbers lie within plus and minus 4,000,000
 pub record IsAxis (axis : Interval) : Type 0 where
   pub ordered : axis.first ≤ℤ axis.last

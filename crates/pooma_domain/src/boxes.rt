@@ -1,6 +1,9 @@
-ghost use Rattle.std.specs.Prelude.{◌≡◌, ◌↔◌, ℕ, ◌*◌, ◌+◌, ◌^◌, ◌<◌, ◌≤◌, ℤ, pos, ◌+ℤ◌, ◌-ℤ◌, ◌≤ℤ◌, Option, Some, List, [], ◌∷◌, length, slice_get, IsTrue};
+ghost use Rattle.std.specs.Prelude.{◌≡◌, ◌↔◌, ℕ, ◌*◌, ◌+◌, ◌^◌, ◌<◌, ◌≤◌, ℤ, pos, ◌+ℤ◌, ◌-ℤ◌, ◌≤ℤ◌, ◌<ℤ◌, Option, Some, List, [], ◌∷◌, length, slice_get, slice_set, All, IsTrue, IsSome, IfSome};
+ghost use Rattle.std.specs.Int.{int_max, int_min};
+ghost use Rattle.std.specs.Option.{ForSome};
 ghost use Rattle.pooma_domain.specs.Axes.{interval_of};
 ghost use Rattle.pooma_domain.specs.Cells.{interval, axis_length, cells_of, IsAxis, IsBox, IsIn};
+ghost use Rattle.pooma_domain.specs.Operations.{common_axes, shifted, shifted_axis, reach, reaches, grown, grown_axis, HaveCommonCell, IsMeeting, IsShifted, IsGrown, IsPart};
 
 use crate::axes::Axis;
 use crate::cells::Cell;
@@ -20,6 +23,7 @@ impl Span {
     fn of(axis: Axis) -> Span
         ensures first { result.first ≡ axis.first }
         ensures last { result.last ≡ axis.last }
+        ensures valid { IsAxis (interval_of axis) }
     {
         Span {
             first: axis.first,
@@ -61,6 +65,39 @@ impl Span {
         ensures { pos result ≡ x -ℤ self.first }
     {
         (i64::from(x) - i64::from(self.first)) as u64
+    }
+
+    // The numbers that are on both.
+    fn meet(self, other: Span) -> Option<Span>
+        ensures found { IsSome result ↔ (int_max self.first other.first ≤ℤ int_min self.last other.last) }
+        ensures first { IfSome result (λ both. both.first ≡ int_max self.first other.first) }
+        ensures last { IfSome result (λ both. both.last ≡ int_min self.last other.last) }
+    {
+        let first = self.first.max(other.first);
+        let last = self.last.min(other.last);
+        if first <= last { Some(Span { first, last }) } else { None }
+    }
+
+    fn shift(self, by: i32) -> Span
+        requires { IsAxis (shifted_axis (interval self.first self.last) by) }
+        ensures first { result.first ≡ self.first +ℤ by }
+        ensures last { result.last ≡ self.last +ℤ by }
+    {
+        Span {
+            first: self.first + by,
+            last: self.last + by,
+        }
+    }
+
+    fn grow(self, low: i32, high: i32) -> Span
+        requires { IsAxis (grown_axis (interval self.first self.last) (reach low high)) }
+        ensures first { result.first ≡ self.first -ℤ low }
+        ensures last { result.last ≡ self.last +ℤ high }
+    {
+        Span {
+            first: self.first - low,
+            last: self.last + high,
+        }
     }
 
     fn holds(self, x: i32) -> bool
@@ -127,6 +164,48 @@ impl BoxN {
         }
     }
 
+    /// The box of no axes: it has one cell, that of no coordinates.
+    pub fn point() -> BoxN
+        ensures axes { result ≡ [] }
+        ensures valid { IsBox result }
+    {
+        BoxN {
+            dims: 0,
+            x: Span::NONE,
+            y: Span::NONE,
+            z: Span::NONE,
+        }
+    }
+
+    /// The box of these two axes.
+    pub fn of2(a: Axis, b: Axis) -> BoxN
+        ensures axes { result ≡ interval_of a ∷ interval_of b ∷ [] }
+        ensures valid { IsBox result }
+    {
+        BoxN {
+            dims: 2,
+            x: Span::of(a),
+            y: Span::of(b),
+            z: Span::NONE,
+        }
+    }
+
+    /// The box of these three axes. None exactly where its number of cells does not fit `i64`.
+    pub fn of3(a: Axis, b: Axis, c: Axis) -> Option<BoxN>
+        ensures found { IsSome result ↔ IsBox (interval_of a ∷ interval_of b ∷ interval_of c ∷ []) }
+        ensures axes { IfSome result (λ made. made ≡ interval_of a ∷ interval_of b ∷ interval_of c ∷ []) }
+    {
+        let x = Span::of(a);
+        let y = Span::of(b);
+        let z = Span::of(c);
+        let layer = x.len() * y.len();
+        if z.len() <= i64::MAX as u64 / layer {
+            Some(BoxN { dims: 3, x, y, z })
+        } else {
+            None
+        }
+    }
+
     /// How many axes the box has.
     pub fn dims(&self) -> usize
         ensures value { result ≡ length self.now }
@@ -190,5 +269,90 @@ impl BoxN {
     {
         let rounds = self.y.offset(c.y) + self.y.len() * self.z.offset(c.z);
         self.x.offset(c.x) + self.x.len() * rounds
+    }
+
+    /// The common cells. None exactly where there are none.
+    pub fn meet(&self, other: &BoxN) -> Option<BoxN>
+        requires { length self.now ≡ length other.now }
+        ensures found { IsSome result ↔ HaveCommonCell self.now other.now }
+        ensures cells { IfSome result (IsMeeting self.now other.now) }
+        ensures axes { IfSome result (λ both. both ≡ common_axes self.now other.now) }
+    {
+        let x = self.x.meet(other.x)?;
+        let y = self.y.meet(other.y)?;
+        let z = self.z.meet(other.z)?;
+        Some(BoxN {
+            dims: self.dims,
+            x,
+            y,
+            z,
+        })
+    }
+
+    /// The box with each cell moved by `by`.
+    pub fn shift(&self, by: &Cell) -> BoxN
+        requires same_dims { length self.now ≡ length by.now }
+        requires valid { IsBox (shifted self.now by.now) }
+        ensures cells { IsShifted self.now by.now result }
+        ensures axes { result ≡ shifted self.now by.now }
+    {
+        BoxN {
+            dims: self.dims,
+            x: self.x.shift(by.x),
+            y: self.y.shift(by.y),
+            z: self.z.shift(by.z),
+        }
+    }
+
+    /// The box with `low` more numbers below and `high` more numbers above on each axis.
+    pub fn grow(&self, low: &Cell, high: &Cell) -> BoxN
+        requires same_dims { (length self.now ≡ length low.now) × (length self.now ≡ length high.now) }
+        requires down { All (λ l. pos 0 ≤ℤ l) low.now }
+        requires up { All (λ h. pos 0 ≤ℤ h) high.now }
+        requires valid { IsBox (grown self.now (reaches low.now high.now)) }
+        ensures cells { IsGrown self.now (reaches low.now high.now) result }
+        ensures axes { result ≡ grown self.now (reaches low.now high.now) }
+    {
+        BoxN {
+            dims: self.dims,
+            x: self.x.grow(low.x, high.x),
+            y: self.y.grow(low.y, high.y),
+            z: self.z.grow(low.z, high.z),
+        }
+    }
+
+    // The box with this axis, which has no other numbers than the old one, in its place.
+    fn narrowed(&self, n: usize, axis: Axis) -> BoxN
+        requires there { n < length self.now }
+        requires within { ForSome (slice_get self.now n) (λ old. (old.first ≤ℤ axis.first) × (axis.last ≤ℤ old.last)) }
+        ensures { result ≡ slice_set self.now n (interval_of axis) }
+    {
+        let span = Span::of(axis);
+        match n {
+            0 => BoxN { x: span, ..*self },
+            1 => BoxN { y: span, ..*self },
+            _ => BoxN { z: span, ..*self },
+        }
+    }
+
+    /// The cells below `at` on this axis, counted from 0, and the others.
+    pub fn cut(&self, axis: usize, at: i32) -> (BoxN, BoxN)
+        requires there { axis < length self.now }
+        requires between { ForSome (slice_get self.now axis) (λ whole. (whole.first <ℤ at) × (at ≤ℤ whole.last)) }
+        ensures lower_cells { IsPart self.now axis (λ x. x <ℤ at) result.0 }
+        ensures upper_cells { IsPart self.now axis (λ x. at ≤ℤ x) result.1 }
+        ensures lower_axes { ForSome (slice_get self.now axis) (λ whole. result.0 ≡ slice_set self.now axis (interval whole.first (at -ℤ pos 1))) }
+        ensures upper_axes { ForSome (slice_get self.now axis) (λ whole. result.1 ≡ slice_set self.now axis (interval at whole.last)) }
+    {
+        let whole = self.axis(axis);
+        let below = Axis {
+            first: whole.first,
+            last: at - 1,
+        };
+        let above = Axis {
+            first: at,
+            last: whole.last,
+        };
+        (self.narrowed(axis, below), self.narrowed(axis, above))
     }
 }

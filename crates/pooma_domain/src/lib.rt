@@ -5,8 +5,10 @@ mod axes;
 mod boxes;
 mod cells;
 mod order;
+mod strides;
 
 pub use axes::Axis;
 pub use boxes::BoxN;
 pub use cells::Cell;
 pub use order::order_of_cells;
+pub use strides::Strided;

@@ -2,7 +2,8 @@ use Rattle.std.proofs.Common.{arith, ◌≡◌, true, false, sym, ◌∙◌}
 use Rattle.std.proofs.lemmas.Bool.{eqb-true}
 use Rattle.std.proofs.lemmas.Int.{ints}
 use Rattle.pooma_domain.specs.Cells.{interval}
-use Rattle.pooma_domain.proofs.PaddedBox.{in_padded, iff_along, Holds}
+use Rattle.pooma_domain.proofs.BoxSets.{Holds}
+use Rattle.pooma_domain.proofs.PaddedBox.{in_padded, iff_along}
 use Rattle.pooma_domain.proofs.boxes.BoxN.contains.Goals as goal
 use Rattle.pooma_domain.proofs.boxes.BoxN.contains.Goals.{then-self-c, else-self-c, then-holds, else-holds}
 
