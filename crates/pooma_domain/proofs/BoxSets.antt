@@ -1,11 +1,11 @@
 -- Operations on lists of axes are those on sets of cells.
 use Rattle.std.proofs.Common.{refl, sym, ap, ◌∙◌, subst, arith}
-use Rattle.std.proofs.lemmas.Int.{ints, clamps, int_max_is, int_min_is}
-use Rattle.std.specs.Prelude.{◌≡◌, ◌↔◌, ℕ, zero, suc, ◌<◌, ℤ, pos, ◌+ℤ◌, ◌-ℤ◌, ◌≤ℤ◌, ◌<ℤ◌, IfSome, Some, All, List, [], ◌∷◌, length, slice_get, slice_set}
+use Rattle.std.proofs.lemmas.Int.{ints, clamps}
+use Rattle.std.specs.Prelude.{◌≡◌, ◌↔◌, ℕ, zero, suc, ℤ, pos, ◌+ℤ◌, ◌-ℤ◌, ◌≤ℤ◌, ◌<ℤ◌, IfSome, Some, All, List, [], ◌∷◌, length, slice_get, slice_set}
 use Rattle.std.proofs.lemmas.List.Elements.{All-head, All-tail}
 use Rattle.std.specs.Int.{int_max, int_min}
 use Rattle.pooma_domain.specs.Cells.{Interval, interval, IsIn, IsOrdered}
-use Rattle.pooma_domain.specs.Operations.{each_of, common, common_axes, moved, shifted, shifted_axis, reach, reaches, grown, grown_axis, IsMeeting, IsShifted, IsGrown, IsPart}
+use Rattle.pooma_domain.specs.Operations.{common, common_axes, moved, shifted, reach, reaches, grown, grown_axis, IsMeeting, IsShifted, IsGrown, IsPart}
 
 abbrev pub Holds : Interval → ℤ → Type 0
 Holds axis x = (axis.first ≤ℤ x) × (x ≤ℤ axis.last)
@@ -93,12 +93,12 @@ grown_back (x ∷ xs) (l ∷ low) [] c e f o ls hs h = cc
 grown_back (x ∷ xs) (l ∷ low) (u ∷ high) [] e f o ls hs h = absurd h
 grown_back (x ∷ xs) (l ∷ low) (u ∷ high) (p ∷ ps) e f o ls hs h =
     let there : (d : List ℤ) × (m : List ℤ) × IsIn xs d × IsIn (reaches low high) m × (ps ≡ moved d m) =
-        grown_back xs low high ps (omega arith) (omega arith) (All-tail IsOrdered x xs o) (All-tail (λ v. pos 0 ≤ℤ v) l low ls) (All-tail (λ v. pos 0 ≤ℤ v) u high hs) h.2 in
+    grown_back xs low high ps (omega arith) (omega arith) (All-tail IsOrdered x xs o) (All-tail (λ v. pos 0 ≤ℤ v) l low ls) (All-tail (λ v. pos 0 ≤ℤ v) u high hs) h.2 in
     let ordered : IsOrdered x = All-head IsOrdered x xs o in
     let down : pos 0 ≤ℤ l = All-head (λ v. pos 0 ≤ℤ v) l low ls in
     let up : pos 0 ≤ℤ u = All-head (λ v. pos 0 ≤ℤ v) u high hs in
     let near : Holds x (nearest x p) × Holds (reach l u) (p -ℤ nearest x p) =
-        nearest_is x (reach l u) p ordered (omega (arith, ints)) up (h.0, h.1) in
+    nearest_is x (reach l u) p ordered (omega (arith, ints)) up (h.0, h.1) in
     let here : p ≡ nearest x p +ℤ (p -ℤ nearest x p) = omega (arith, ints) in
     (nearest x p ∷ there.0, (p -ℤ nearest x p) ∷ there.1, (near.0.0, near.0.1, there.2), (near.1.0, near.1.1, there.3), cc)
 
@@ -108,9 +108,10 @@ length-reaches (l ∷ low) [] e = cc
 length-reaches (l ∷ low) (u ∷ high) e = ap suc (length-reaches low high (omega arith))
 
 pub grown_is : (a : List Interval) (low high : List ℤ) → length a ≡ length low → length a ≡ length high → All IsOrdered a → All (λ l. pos 0 ≤ℤ l) low → All (λ h. pos 0 ≤ℤ h) high → IsGrown a (reaches low high) (grown a (reaches low high))
-grown_is a low high e f o ls hs c =
-    (grown_back a low high c e f o ls hs,
-     λ h. subst (IsIn (grown a (reaches low high))) (sym h.4) (grown_from a (reaches low high) h.0 h.1 (e ∙ sym (length-reaches low high (sym e ∙ f))) h.2 h.3))
+grown_is a low high e f o ls hs c = (
+  grown_back a low high c e f o ls hs,
+  λ h. subst (IsIn (grown a (reaches low high))) (sym h.4) (grown_from a (reaches low high) h.0 h.1 (e ∙ sym (length-reaches low high (sym e ∙ f))) h.2 h.3),
+)
 
 -- an axis that is narrowed by a test on its numbers makes the part of the box that passes the test
 part_from : (axes : List Interval) (n : ℕ) (a b : Interval) (Passes : ℤ → Type 0) → slice_get axes n ≡ Some a → ((x : ℤ) → Holds b x ↔ (Holds a x × Passes x)) → (c : List ℤ) → IsIn (slice_set axes n b) c → IsIn axes c × IfSome (slice_get c n) Passes

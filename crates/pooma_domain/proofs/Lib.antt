@@ -2,3 +2,4 @@ pub mod BoxSets
 pub mod CellOrder
 pub mod PaddedBox
 pub mod PaddedMoves
+pub mod Striding

@@ -4,12 +4,12 @@ use Rattle.std.proofs.lemmas.Int.{ints, clamps}
 use Rattle.std.proofs.lemmas.List.Elements.{All-head, All-tail, All-cons, All-nil, All-take, All-weaker}
 use Rattle.std.proofs.lemmas.Nat.{mul-le}
 use Rattle.std.proofs.Math.Nat.{mul_comm, mul-pos, le-div_iff_mul-le}
-use Rattle.std.specs.Prelude.{◌≡◌, ◌≢◌, ◌↔◌, ℕ, zero, suc, ◌+◌, ◌-◌, ◌*◌, ◌/◌, ◌^◌, ◌<◌, ◌≤◌, ℤ, pos, neg_ℤ, ◌+ℤ◌, ◌-ℤ◌, ◌≤ℤ◌, ◌<ℤ◌, Some, All, List, [], ◌∷◌, length, slice_get, slice_set, take}
-use Rattle.pooma_domain.specs.Cells.{Interval, interval, axis_length, cells_of, IsIn, IsOrdered, IsAxis, IsBox}
+use Rattle.std.specs.Prelude.{◌≡◌, ◌≢◌, ◌↔◌, ℕ, zero, suc, ◌-◌, ◌*◌, ◌/◌, ◌^◌, ◌<◌, ◌≤◌, ℤ, pos, ◌+ℤ◌, ◌-ℤ◌, ◌≤ℤ◌, Some, All, List, [], ◌∷◌, length, slice_get, slice_set, take}
+use Rattle.pooma_domain.specs.Cells.{Interval, interval, axis_length, IsIn, IsOrdered, IsAxis, IsBox}
 use Rattle.pooma_domain.specs.Operations.{each_of, common, common_axes, shifted, shifted_axis, reach, reaches, grown, grown_axis, HaveCommonCell}
 use Rattle.pooma_domain.specs.Padding.{no_axis, IsPaddedBox, IsPaddedCell, length-padded}
-use Rattle.pooma_domain.proofs.BoxSets.{Holds, common_axes_meet}
-use Rattle.pooma_domain.proofs.PaddedBox.{volume, length-cells-padded, length-cells-box, length_of_axis, box_from_padded, first_axis, second_axis, third_axis}
+use Rattle.pooma_domain.proofs.BoxSets.{common_axes_meet}
+use Rattle.pooma_domain.proofs.PaddedBox.{volume, length-cells-padded, length_of_axis, box_from_padded, first_axis, second_axis, third_axis}
 
 pub same_interval : (a b : Interval) → a.first ≡ b.first → a.last ≡ b.last → a ≡ b
 same_interval a b e f = ap (λ v. interval v a.last) e ∙ ap (λ v. interval b.first v) f
@@ -41,9 +41,9 @@ within_length a b h k =
 pub narrowed_box : (d : ℕ) (x y z x' y' z' : Interval) → IsPaddedBox d x y z → IsWithin x' x → IsWithin y' y → IsWithin z' z → IsPaddedBox d x' y' z'
 narrowed_box d x y z x' y' z' box hx hy hz =
     let small : volume x' y' z' ≤ volume x y z =
-        mul-le (axis_length x' * axis_length y') (axis_length z') (axis_length x * axis_length y) (axis_length z)
-        (mul-le (axis_length x') (axis_length y') (axis_length x) (axis_length y) (within_length x' x hx box.x_axis) (within_length y' y hy box.y_axis))
-        (within_length z' z hz box.z_axis) in
+    mul-le (axis_length x' * axis_length y') (axis_length z') (axis_length x * axis_length y) (axis_length z)
+    (mul-le (axis_length x') (axis_length y') (axis_length x) (axis_length y) (within_length x' x hx box.x_axis) (within_length y' y hy box.y_axis))
+    (within_length z' z hz box.z_axis) in
     record {
       few = box.few;
       no_x = λ h. within_no_axis x' x hx (box.no_x h);
@@ -160,7 +160,7 @@ common_ordered d e x y z p q r same box other h =
     let length_d : length (take d (x ∷ y ∷ z ∷ [])) ≡ d = length-padded d x y z box.few in
     let length_e : length (take e (p ∷ q ∷ r ∷ [])) ≡ e = length-padded e p q r other.few in
     let inside : IsIn (common_axes (take d (x ∷ y ∷ z ∷ [])) (take e (p ∷ q ∷ r ∷ []))) h.0 =
-        (common_axes_meet (take d (x ∷ y ∷ z ∷ [])) (take e (p ∷ q ∷ r ∷ [])) (length_d ∙ same ∙ sym length_e) h.0).1 (h.1, h.2) in
+    (common_axes_meet (take d (x ∷ y ∷ z ∷ [])) (take e (p ∷ q ∷ r ∷ [])) (length_d ∙ same ∙ sym length_e) h.0).1 (h.1, h.2) in
     ordered_three d (common x p) (common y q) (common z r) h.0 box.few
     (λ few. no_common x p (box.no_x few) (other.no_x (omega arith)))
     (λ few. no_common y q (box.no_y few) (other.no_y (omega arith)))
@@ -182,7 +182,7 @@ corner_in (axis ∷ axes) h =
 pub common_cell : (a b : List Interval) → length a ≡ length b → All IsOrdered (common_axes a b) → HaveCommonCell a b
 common_cell a b e h =
     let both : IsIn a (corner (common_axes a b)) × IsIn b (corner (common_axes a b)) =
-        (common_axes_meet a b e (corner (common_axes a b))).0 (corner_in (common_axes a b) h) in
+    (common_axes_meet a b e (corner (common_axes a b))).0 (corner_in (common_axes a b) h) in
     (corner (common_axes a b), both.0, both.1)
 
 pub common_within : (a b : Interval) → IsOrdered (common a b) → IsWithin (common a b) a
@@ -245,12 +245,12 @@ pub meet_makes : (d e : ℕ) (x y z p q r : Interval) (a b : List Interval) (x' 
 meet_makes d e x y z p q r a b x' y' z' box other ea eb same ex ey ez ox oy oz =
     let dims : d ≡ e = same_box_dims d e x y z p q r box other (ap length ea ∙ same ∙ sym (ap length eb)) in
     let narrow : IsPaddedBox d (common x p) (common y q) (common z r) =
-        narrowed_box d x y z (common x p) (common y q) (common z r) box (common_within x p ox) (common_within y q oy) (common_within z r oz) in
+    narrowed_box d x y z (common x p) (common y q) (common z r) box (common_within x p ox) (common_within y q oy) (common_within z r oz) in
     let is : take d (common x p ∷ common y q ∷ common z r ∷ []) ≡ common_axes a b =
-        sym (common-three d e x y z p q r dims) ∙ (let e' : common_axes (take d (x ∷ y ∷ z ∷ [])) (take e (p ∷ q ∷ r ∷ [])) ≡ common_axes a b = rw (ea, eb) refl in e') in
+    sym (common-three d e x y z p q r dims) ∙ (let e' : common_axes (take d (x ∷ y ∷ z ∷ [])) (take e (p ∷ q ∷ r ∷ [])) ≡ common_axes a b = rw (ea, eb) refl in e') in
     let all : All IsOrdered (take d (common x p ∷ common y q ∷ common z r ∷ [])) =
-        All-take IsOrdered d (common x p ∷ common y q ∷ common z r ∷ [])
-        (All-cons IsOrdered (common x p) (common y q ∷ common z r ∷ []) ox (All-cons IsOrdered (common y q) (common z r ∷ []) oy (All-cons IsOrdered (common z r) [] oz (All-nil IsOrdered)))) in
+    All-take IsOrdered d (common x p ∷ common y q ∷ common z r ∷ [])
+    (All-cons IsOrdered (common x p) (common y q ∷ common z r ∷ []) ox (All-cons IsOrdered (common y q) (common z r ∷ []) oy (All-cons IsOrdered (common z r) [] oz (All-nil IsOrdered)))) in
     let held : IsPaddedBox d x' y' z' = rw (ex, ey, ez) narrow in
     let kept : take d (x' ∷ y' ∷ z' ∷ []) ≡ common_axes a b = rw (ex, ey, ez) is in
     (held, kept, common_cell a b same (subst (All IsOrdered) is all))
@@ -290,11 +290,12 @@ three_box x y z hx hy hz h = record {
 
 -- whether the cells of three axes can be counted is told by a quotient
 pub quotient_tells : (x y z : Interval) (a b e : ℕ) → a ≡ axis_length x → b ≡ axis_length y → e ≡ axis_length z → 0 < a * b → (e ≤ (2 ^ 63 - 1) / (a * b)) ↔ (volume x y z < 2 ^ 63)
-quotient_tells x y z a b e ea eb ee some =
-    (λ h. let within : e * (a * b) ≤ 2 ^ 63 - 1 = (le-div_iff_mul-le some).0 h in
-          let turned : e * (a * b) ≡ volume x y z = mul_comm e (a * b) ∙ rw (ea, eb, ee) refl in
-          omega arith,
-     λ h. (le-div_iff_mul-le some).1 (let turned : e * (a * b) ≡ volume x y z = mul_comm e (a * b) ∙ rw (ea, eb, ee) refl in omega arith))
+quotient_tells x y z a b e ea eb ee some = (
+  λ h. let within : e * (a * b) ≤ 2 ^ 63 - 1 = (le-div_iff_mul-le some).0 h in
+      let turned : e * (a * b) ≡ volume x y z = mul_comm e (a * b) ∙ rw (ea, eb, ee) refl in
+      omega arith,
+  λ h. (le-div_iff_mul-le some).1 (let turned : e * (a * b) ≡ volume x y z = mul_comm e (a * b) ∙ rw (ea, eb, ee) refl in omega arith),
+)
 
 pub volume_of_box : (x y z : Interval) → IsBox (x ∷ y ∷ z ∷ []) → volume x y z < 2 ^ 63
 volume_of_box x y z h =
@@ -313,9 +314,10 @@ within_itself a h = record { ordered = h.ordered; low = omega (arith, ints); hig
 pub narrow_first : (d n : ℕ) (x y z a : Interval) (axes : List Interval) → IsPaddedBox d x y z → take d (x ∷ y ∷ z ∷ []) ≡ axes → n < length axes → n ≡ 0 → IsAxis a → ((old : Interval) → slice_get axes n ≡ Some old → (old.first ≤ℤ a.first) × (a.last ≤ℤ old.last)) → IsPaddedBox d a y z × (take d (a ∷ y ∷ z ∷ []) ≡ slice_set axes n a)
 narrow_first d n x y z a axes box e there is valid within =
     let old : (x.first ≤ℤ a.first) × (a.last ≤ℤ x.last) =
-        within x (rw (← e) (first_axis d n x y z (rw e there) is)) in
-    (narrowed_box d x y z a y z box (record { ordered = valid.ordered; low = old.0; high = old.1 }) (within_itself y box.y_axis) (within_itself z box.z_axis),
-     rw (← e, is) (set_first d x y z a))
+    within x (rw (← e) (first_axis d n x y z (rw e there) is)) in (
+      narrowed_box d x y z a y z box (record { ordered = valid.ordered; low = old.0; high = old.1 }) (within_itself y box.y_axis) (within_itself z box.z_axis),
+      rw (← e, is) (set_first d x y z a),
+    )
   where
     set_first : (d : ℕ) (x y z a : Interval) → take d (a ∷ y ∷ z ∷ []) ≡ slice_set (take d (x ∷ y ∷ z ∷ [])) 0 a
     set_first zero x y z a = refl
@@ -324,9 +326,10 @@ narrow_first d n x y z a axes box e there is valid within =
 pub narrow_second : (d n : ℕ) (x y z a : Interval) (axes : List Interval) → IsPaddedBox d x y z → take d (x ∷ y ∷ z ∷ []) ≡ axes → n < length axes → n ≡ 1 → IsAxis a → ((old : Interval) → slice_get axes n ≡ Some old → (old.first ≤ℤ a.first) × (a.last ≤ℤ old.last)) → IsPaddedBox d x a z × (take d (x ∷ a ∷ z ∷ []) ≡ slice_set axes n a)
 narrow_second d n x y z a axes box e there is valid within =
     let old : (y.first ≤ℤ a.first) × (a.last ≤ℤ y.last) =
-        within y (rw (← e) (second_axis d n x y z (rw e there) is)) in
-    (narrowed_box d x y z x a z box (within_itself x box.x_axis) (record { ordered = valid.ordered; low = old.0; high = old.1 }) (within_itself z box.z_axis),
-     rw (← e, is) (set_second d x y z a))
+    within y (rw (← e) (second_axis d n x y z (rw e there) is)) in (
+      narrowed_box d x y z x a z box (within_itself x box.x_axis) (record { ordered = valid.ordered; low = old.0; high = old.1 }) (within_itself z box.z_axis),
+      rw (← e, is) (set_second d x y z a),
+    )
   where
     set_second : (d : ℕ) (x y z a : Interval) → take d (x ∷ a ∷ z ∷ []) ≡ slice_set (take d (x ∷ y ∷ z ∷ [])) 1 a
     set_second zero x y z a = refl
@@ -336,10 +339,11 @@ narrow_second d n x y z a axes box e there is valid within =
 pub narrow_third : (d n : ℕ) (x y z a : Interval) (axes : List Interval) → IsPaddedBox d x y z → take d (x ∷ y ∷ z ∷ []) ≡ axes → n < length axes → n ≢ 0 → n ≢ 1 → IsAxis a → ((old : Interval) → slice_get axes n ≡ Some old → (old.first ≤ℤ a.first) × (a.last ≤ℤ old.last)) → IsPaddedBox d x y a × (take d (x ∷ y ∷ a ∷ []) ≡ slice_set axes n a)
 narrow_third d n x y z a axes box e there not_first not_second valid within =
     let old : (z.first ≤ℤ a.first) × (a.last ≤ℤ z.last) =
-        within z (rw (← e) (third_axis d n x y z box.few (rw e there) not_first not_second)) in
-    let is : n ≡ 2 = omega (arith, ap length e, length-padded d x y z box.few, box.few) in
-    (narrowed_box d x y z x y a box (within_itself x box.x_axis) (within_itself y box.y_axis) (record { ordered = valid.ordered; low = old.0; high = old.1 }),
-     rw (← e, is) (set_third d x y z a))
+    within z (rw (← e) (third_axis d n x y z box.few (rw e there) not_first not_second)) in
+    let is : n ≡ 2 = omega (arith, ap length e, length-padded d x y z box.few, box.few) in (
+      narrowed_box d x y z x y a box (within_itself x box.x_axis) (within_itself y box.y_axis) (record { ordered = valid.ordered; low = old.0; high = old.1 }),
+      rw (← e, is) (set_third d x y z a),
+    )
   where
     set_third : (d : ℕ) (x y z a : Interval) → take d (x ∷ y ∷ a ∷ []) ≡ slice_set (take d (x ∷ y ∷ z ∷ [])) 2 a
     set_third zero x y z a = refl

@@ -1,5 +1,5 @@
 -- What is made of boxes: as lists of axes, and as sets of cells.
-use Rattle.std.specs.Prelude.{◌≡◌, ◌↔◌, ℕ, ℤ, pos, neg_ℤ, ◌+ℤ◌, ◌-ℤ◌, ◌≤ℤ◌, ◌<ℤ◌, IfSome, List, [], ◌∷◌, slice_get}
+use Rattle.std.specs.Prelude.{◌≡◌, ◌↔◌, ℕ, ℤ, neg_ℤ, ◌+ℤ◌, IfSome, List, [], ◌∷◌, slice_get}
 use Rattle.std.specs.Int.{int_max, int_min}
 use Rattle.pooma_domain.specs.Cells.{Interval, interval, IsIn}
 

@@ -1,5 +1,5 @@
 -- Whole numbers at one distance from each other.
-use Rattle.std.specs.Prelude.{ℕ, zero, suc, ℤ, pos, ◌+ℤ◌, ◌≤ℤ◌, ◌<ℤ◌, List, [], ◌∷◌}
+use Rattle.std.specs.Prelude.{ℕ, zero, suc, ℤ, ◌+ℤ◌, List, [], ◌∷◌}
 use Rattle.pooma_domain.specs.declared.strides.Strided.{Strided}
 
 -- so many numbers from a first one on, each a stride from the one before

@@ -75,7 +75,11 @@ impl Span {
     {
         let first = self.first.max(other.first);
         let last = self.last.min(other.last);
-        if first <= last { Some(Span { first, last }) } else { None }
+        if first <= last {
+            Some(Span { first, last })
+        } else {
+            None
+        }
     }
 
     fn shift(self, by: i32) -> Span
@@ -203,6 +207,19 @@ impl BoxN {
             Some(BoxN { dims: 3, x, y, z })
         } else {
             None
+        }
+    }
+
+    /// The box with one more axis, before the others.
+    pub fn after(&self, first: Axis) -> BoxN
+        requires { IsBox (interval_of first ∷ self.now) }
+        ensures { result ≡ interval_of first ∷ self.now }
+    {
+        BoxN {
+            dims: self.dims + 1,
+            x: Span::of(first),
+            y: self.x,
+            z: self.y,
         }
     }
 

@@ -1,4 +1,4 @@
-ghost use Rattle.std.specs.Prelude.{◌≡◌, ◌<◌, ◌≤◌, Some, [], ◌∷◌, length, slice_get};
+ghost use Rattle.std.specs.Prelude.{◌≡◌, ◌↔◌, ◌<◌, ◌≤◌, Some, [], ◌∷◌, length, take, drop, slice_get, IsTrue};
 
 use std::marker::Model;
 
@@ -101,5 +101,51 @@ impl Cell {
         ensures { slice_get self.now axis ≡ Some result }
     {
         [self.x, self.y, self.z][axis]
+    }
+
+    /// The cell of so many of these three coordinates, from the first one on.
+    pub fn front(dims: usize, coordinates: [i32; 3]) -> Cell
+        requires { dims ≤ 3 }
+        ensures { result ≡ take dims coordinates.entry }
+    {
+        Cell {
+            dims,
+            x: if dims > 0 { coordinates[0] } else { 0 },
+            y: if dims > 1 { coordinates[1] } else { 0 },
+            z: if dims > 2 { coordinates[2] } else { 0 },
+        }
+    }
+
+    /// The cell with one more coordinate, before the others.
+    pub fn after(&self, first: i32) -> Cell
+        requires { length self.now < 3 }
+        ensures { result ≡ first ∷ self.now }
+    {
+        Cell {
+            dims: self.dims + 1,
+            x: first,
+            y: self.x,
+            z: self.y,
+        }
+    }
+
+    /// The cell without its first coordinate.
+    pub fn rest(&self) -> Cell
+        requires { 0 < length self.now }
+        ensures { result ≡ drop 1 self.now }
+    {
+        Cell {
+            dims: self.dims - 1,
+            x: self.y,
+            y: self.z,
+            z: 0,
+        }
+    }
+
+    /// Whether both have the same coordinates.
+    pub fn is_same(&self, other: &Cell) -> bool
+        ensures { IsTrue result ↔ (self.now ≡ other.now) }
+    {
+        self.dims == other.dims && self.x == other.x && self.y == other.y && self.z == other.z
     }
 }

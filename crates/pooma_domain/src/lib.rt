@@ -12,3 +12,6 @@ pub use boxes::BoxN;
 pub use cells::Cell;
 pub use order::order_of_cells;
 pub use strides::Strided;
+
+#[cfg(test)]
+mod tests;

@@ -1,8 +1,8 @@
-use Rattle.std.proofs.Common.{arith, ◌≡◌, ◌∙◌, ap, sym, subst, List, ℤ, pos, ◌≤ℤ◌, ◌-ℤ◌}
+use Rattle.std.proofs.Common.{arith, ◌≡◌, ◌∙◌, ap, sym, subst, List, ◌≤ℤ◌}
 use Rattle.std.proofs.lemmas.Int.{ints}
 use Rattle.std.specs.Prelude.{slice_set, ◌<ℤ◌}
 use Rattle.pooma_domain.specs.Axes.{interval_of}
-use Rattle.pooma_domain.specs.Cells.{Interval, interval}
+use Rattle.pooma_domain.specs.Cells.{Interval}
 use Rattle.pooma_domain.specs.Operations.{IsPart}
 use Rattle.pooma_domain.proofs.BoxSets.{lower_part, upper_part}
 use Rattle.pooma_domain.proofs.PaddedMoves.{same_interval}
@@ -52,7 +52,7 @@ returns-clause-lower_axes c x e =
     let first : c.axis-whole.result.first ≡ x.first = ap (λ (i : Interval). i.first) same in
     c.narrowed.ensures
     ∙ ap (λ i. slice_set c.args.self.now c.args.axis i)
-        (same_interval _ _ (omega (arith, ints, first)) (omega (arith, ints, b.0, c.axis-whole.result.low, c.axis-whole.result.high)))
+    (same_interval _ _ (omega (arith, ints, first)) (omega (arith, ints, b.0, c.axis-whole.result.low, c.axis-whole.result.high)))
 
 pub returns-clause-upper_axes : goal.returns-clause-upper_axes
 returns-clause-upper_axes c x e =

@@ -21,16 +21,16 @@ grow-requires-3 c =
 pub invariant_of-result : goal.invariant_of-result
 invariant_of-result c =
     (grow_makes _ _ _ _ _ _ _ _ _ _ _ _ _ _ _ _ _ _ c.self.invariant c.low.invariant c.high.invariant c.self.view_is c.low.view_is c.high.view_is c.requires.same_dims.0 c.requires.same_dims.1 c.requires.valid
-        (omega (arith, ints, c.grow.ensures.first)) (omega (arith, ints, c.grow.ensures.last))
-        (omega (arith, ints, c.grow-2.ensures.first)) (omega (arith, ints, c.grow-2.ensures.last))
-        (omega (arith, ints, c.grow-3.ensures.first)) (omega (arith, ints, c.grow-3.ensures.last))).0
+    (omega (arith, ints, c.grow.ensures.first)) (omega (arith, ints, c.grow.ensures.last))
+    (omega (arith, ints, c.grow-2.ensures.first)) (omega (arith, ints, c.grow-2.ensures.last))
+    (omega (arith, ints, c.grow-3.ensures.first)) (omega (arith, ints, c.grow-3.ensures.last))).0
 
 pub returns-clause-axes : goal.returns-clause-axes
 returns-clause-axes c =
     (grow_makes _ _ _ _ _ _ _ _ _ _ _ _ _ _ _ _ _ _ c.self.invariant c.low.invariant c.high.invariant c.self.view_is c.low.view_is c.high.view_is c.requires.same_dims.0 c.requires.same_dims.1 c.requires.valid
-        (omega (arith, ints, c.grow.ensures.first)) (omega (arith, ints, c.grow.ensures.last))
-        (omega (arith, ints, c.grow-2.ensures.first)) (omega (arith, ints, c.grow-2.ensures.last))
-        (omega (arith, ints, c.grow-3.ensures.first)) (omega (arith, ints, c.grow-3.ensures.last))).1
+    (omega (arith, ints, c.grow.ensures.first)) (omega (arith, ints, c.grow.ensures.last))
+    (omega (arith, ints, c.grow-2.ensures.first)) (omega (arith, ints, c.grow-2.ensures.last))
+    (omega (arith, ints, c.grow-3.ensures.first)) (omega (arith, ints, c.grow-3.ensures.last))).1
 
 pub returns-clause-cells : goal.returns-clause-cells
 returns-clause-cells c =

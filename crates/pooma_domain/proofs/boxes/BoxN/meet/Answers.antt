@@ -30,15 +30,17 @@ invariant_of-result c =
     let y = c.in_ok-y.ensures in
     let z = c.in_ok-z.ensures in
     (meet_makes _ _ _ _ _ _ _ _ _ _ (interval c.in_ok-x.x.first c.in_ok-x.x.last) (interval c.in_ok-y.y.first c.in_ok-y.y.last) (interval c.in_ok-z.z.first c.in_ok-z.z.last) c.self.invariant c.other.invariant c.self.view_is c.other.view_is c.requires
-        (same_interval _ _ x.first x.last) (same_interval _ _ y.first y.last) (same_interval _ _ z.first z.last) (x.found.0 refl) (y.found.0 refl) (z.found.0 refl)).0
+    (same_interval _ _ x.first x.last) (same_interval _ _ y.first y.last) (same_interval _ _ z.first z.last) (x.found.0 refl) (y.found.0 refl) (z.found.0 refl)).0
 
 pub returns-clause-found : goal.returns-clause-found
 returns-clause-found c =
     let x = c.in_ok-x.ensures in
     let y = c.in_ok-y.ensures in
-    let z = c.in_ok-z.ensures in
-    (λ _. (meet_makes _ _ _ _ _ _ _ _ _ _ (interval c.in_ok-x.x.first c.in_ok-x.x.last) (interval c.in_ok-y.y.first c.in_ok-y.y.last) (interval c.in_ok-z.z.first c.in_ok-z.z.last) c.self.invariant c.other.invariant c.self.view_is c.other.view_is c.requires
-        (same_interval _ _ x.first x.last) (same_interval _ _ y.first y.last) (same_interval _ _ z.first z.last) (x.found.0 refl) (y.found.0 refl) (z.found.0 refl)).2, λ _. refl)
+    let z = c.in_ok-z.ensures in (
+      λ _. (meet_makes _ _ _ _ _ _ _ _ _ _ (interval c.in_ok-x.x.first c.in_ok-x.x.last) (interval c.in_ok-y.y.first c.in_ok-y.y.last) (interval c.in_ok-z.z.first c.in_ok-z.z.last) c.self.invariant c.other.invariant c.self.view_is c.other.view_is c.requires
+          (same_interval _ _ x.first x.last) (same_interval _ _ y.first y.last) (same_interval _ _ z.first z.last) (x.found.0 refl) (y.found.0 refl) (z.found.0 refl)).2,
+      λ _. refl,
+    )
 
 pub returns-clause-axes : goal.returns-clause-axes
 returns-clause-axes c =
@@ -46,7 +48,7 @@ returns-clause-axes c =
     let y = c.in_ok-y.ensures in
     let z = c.in_ok-z.ensures in
     (meet_makes _ _ _ _ _ _ _ _ _ _ (interval c.in_ok-x.x.first c.in_ok-x.x.last) (interval c.in_ok-y.y.first c.in_ok-y.y.last) (interval c.in_ok-z.z.first c.in_ok-z.z.last) c.self.invariant c.other.invariant c.self.view_is c.other.view_is c.requires
-        (same_interval _ _ x.first x.last) (same_interval _ _ y.first y.last) (same_interval _ _ z.first z.last) (x.found.0 refl) (y.found.0 refl) (z.found.0 refl)).1
+    (same_interval _ _ x.first x.last) (same_interval _ _ y.first y.last) (same_interval _ _ z.first z.last) (x.found.0 refl) (y.found.0 refl) (z.found.0 refl)).1
 
 pub returns-clause-cells : goal.returns-clause-cells
 returns-clause-cells c =

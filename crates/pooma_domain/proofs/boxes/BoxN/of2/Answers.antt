@@ -13,4 +13,4 @@ pub returns-clause-valid : goal.returns-clause-valid
 returns-clause-valid c =
     rw (c.of.ensures.first, c.of.ensures.last, c.of-2.ensures.first, c.of-2.ensures.last)
     (box_from_padded 2 (interval_of c.args.a) (interval_of c.args.b) no_axis
-        (layer_box (interval_of c.args.a) (interval_of c.args.b) c.of.ensures.valid c.of-2.ensures.valid))
+    (layer_box (interval_of c.args.a) (interval_of c.args.b) c.of.ensures.valid c.of-2.ensures.valid))

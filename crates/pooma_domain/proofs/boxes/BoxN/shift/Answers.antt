@@ -21,16 +21,16 @@ shift-requires-3 c =
 pub invariant_of-result : goal.invariant_of-result
 invariant_of-result c =
     (shift_makes _ _ _ _ _ _ _ _ _ _ _ _ _ c.self.invariant c.by.invariant c.self.view_is c.by.view_is c.requires.same_dims c.requires.valid
-        (omega (arith, ints, c.shift.ensures.first)) (omega (arith, ints, c.shift.ensures.last))
-        (omega (arith, ints, c.shift-2.ensures.first)) (omega (arith, ints, c.shift-2.ensures.last))
-        (omega (arith, ints, c.shift-3.ensures.first)) (omega (arith, ints, c.shift-3.ensures.last))).0
+    (omega (arith, ints, c.shift.ensures.first)) (omega (arith, ints, c.shift.ensures.last))
+    (omega (arith, ints, c.shift-2.ensures.first)) (omega (arith, ints, c.shift-2.ensures.last))
+    (omega (arith, ints, c.shift-3.ensures.first)) (omega (arith, ints, c.shift-3.ensures.last))).0
 
 pub returns-clause-axes : goal.returns-clause-axes
 returns-clause-axes c =
     (shift_makes _ _ _ _ _ _ _ _ _ _ _ _ _ c.self.invariant c.by.invariant c.self.view_is c.by.view_is c.requires.same_dims c.requires.valid
-        (omega (arith, ints, c.shift.ensures.first)) (omega (arith, ints, c.shift.ensures.last))
-        (omega (arith, ints, c.shift-2.ensures.first)) (omega (arith, ints, c.shift-2.ensures.last))
-        (omega (arith, ints, c.shift-3.ensures.first)) (omega (arith, ints, c.shift-3.ensures.last))).1
+    (omega (arith, ints, c.shift.ensures.first)) (omega (arith, ints, c.shift.ensures.last))
+    (omega (arith, ints, c.shift-2.ensures.first)) (omega (arith, ints, c.shift-2.ensures.last))
+    (omega (arith, ints, c.shift-3.ensures.first)) (omega (arith, ints, c.shift-3.ensures.last))).1
 
 pub returns-clause-cells : goal.returns-clause-cells
 returns-clause-cells c =
