@@ -4,7 +4,7 @@ use Rattle.std.proofs.lemmas.Int.{ints, clamps}
 use Rattle.std.proofs.lemmas.List.Elements.{All-head, All-tail, All-cons, All-nil, All-take, All-weaker}
 use Rattle.std.proofs.lemmas.Nat.{mul-le}
 use Rattle.std.proofs.Math.Nat.{mul_comm, mul-pos, le-div_iff_mul-le}
-use Rattle.std.specs.Prelude.{◌≡◌, ◌≢◌, ◌↔◌, ℕ, zero, suc, ◌-◌, ◌*◌, ◌/◌, ◌^◌, ◌<◌, ◌≤◌, ℤ, pos, ◌+ℤ◌, ◌-ℤ◌, ◌≤ℤ◌, Some, All, List, [], ◌∷◌, length, slice_get, slice_set, take}
+use Rattle.std.specs.Prelude.{◌+◌, ◌≡◌, ◌≢◌, ◌↔◌, ℕ, zero, suc, ◌-◌, ◌*◌, ◌/◌, ◌^◌, ◌<◌, ◌≤◌, ℤ, pos, ◌+ℤ◌, ◌-ℤ◌, ◌≤ℤ◌, Some, All, List, [], ◌∷◌, length, slice_get, slice_set, take}
 use Rattle.pooma_domain.specs.Cells.{Interval, interval, axis_length, IsIn, IsOrdered, IsAxis, IsBox}
 use Rattle.pooma_domain.specs.Operations.{each_of, common, common_axes, shifted, shifted_axis, reach, reaches, grown, grown_axis, HaveCommonCell}
 use Rattle.pooma_domain.specs.Padding.{no_axis, IsPaddedBox, IsPaddedCell, length-padded}
@@ -350,3 +350,19 @@ narrow_third d n x y z a axes box e there not_first not_second valid within =
     set_third (suc zero) x y z a = refl
     set_third (suc (suc zero)) x y z a = refl
     set_third (suc (suc (suc d))) x y z a = refl
+
+-- a box of one axis more
+take_one_more : (d : ℕ) (a x y z : Interval) → d ≤ 2 → take (d + 1) (a ∷ x ∷ y ∷ []) ≡ a ∷ take d (x ∷ y ∷ z ∷ [])
+take_one_more zero a x y z h = refl
+take_one_more (suc zero) a x y z h = refl
+take_one_more (suc (suc zero)) a x y z h = refl
+take_one_more (suc (suc (suc d))) a x y z h = absurd (omega arith)
+
+pub after_padded : (d : ℕ) (a x y z : Interval) (axes : List Interval) → IsPaddedBox d x y z → take d (x ∷ y ∷ z ∷ []) ≡ axes → IsBox (a ∷ axes) → IsPaddedBox (d + 1) a x y
+after_padded d a x y z axes box e h =
+    let dims : d ≤ 2 = omega (arith, length-padded d x y z box.few, ap length e, h.few) in
+    padded_from_box (d + 1) a x y (omega arith)
+    (λ k. absurd (omega arith))
+    (λ k. box.no_x (omega arith))
+    (λ k. box.no_y (omega arith))
+    (rw (take_one_more d a x y z dims, e) h)

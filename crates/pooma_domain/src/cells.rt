@@ -106,7 +106,7 @@ impl Cell {
     /// The cell of so many of these three coordinates, from the first one on.
     pub fn front(dims: usize, coordinates: [i32; 3]) -> Cell
         requires { dims ≤ 3 }
-        ensures { result ≡ take dims coordinates.entry }
+        ensures { result ≡ take dims coordinates }
     {
         Cell {
             dims,
