@@ -1,4 +1,4 @@
-ghost use Rattle.std.specs.Prelude.{◌≡◌, ◌↔◌, ℕ, ◌*◌, ◌+◌, ◌^◌, ◌<◌, ◌≤◌, ℤ, pos, ◌+ℤ◌, ◌-ℤ◌, ◌≤ℤ◌, ◌<ℤ◌, Option, Some, List, [], ◌∷◌, length, slice_get, slice_set, All, IsTrue, IsSome, IfSome};
+ghost use Rattle.std.specs.Prelude.{◌≡◌, ◌↔◌, ℕ, ◌*◌, ◌+◌, ◌^◌, ◌<◌, ◌≤◌, ℤ, pos, ◌+ℤ◌, ◌-ℤ◌, ◌≤ℤ◌, ◌<ℤ◌, Option, Some, List, [], ◌∷◌, length, map, slice_get, slice_set, All, IsTrue, IsSome, IfSome};
 ghost use Rattle.std.specs.Int.{int_max, int_min};
 ghost use Rattle.std.specs.Option.{ForSome};
 ghost use Rattle.pooma_domain.specs.Axes.{interval_of};
@@ -250,6 +250,30 @@ impl BoxN {
         ensures few { result < 2 ^ 63 }
     {
         self.x.len() * self.y.len() * self.z.len()
+    }
+
+    /// The cell with the least number of each axis.
+    pub fn least(&self) -> Cell
+        ensures { result ≡ map (λ axis. axis.first) self.now }
+    {
+        Cell {
+            dims: self.dims,
+            x: self.x.first,
+            y: self.y.first,
+            z: self.z.first,
+        }
+    }
+
+    /// The cell with the greatest number of each axis.
+    pub fn greatest(&self) -> Cell
+        ensures { result ≡ map (λ axis. axis.last) self.now }
+    {
+        Cell {
+            dims: self.dims,
+            x: self.x.last,
+            y: self.y.last,
+            z: self.z.last,
+        }
     }
 
     /// Whether the cell lies in the box. A cell of another number of coordinates does not.

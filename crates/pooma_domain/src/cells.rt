@@ -1,4 +1,4 @@
-ghost use Rattle.std.specs.Prelude.{◌≡◌, ◌↔◌, ◌<◌, ◌≤◌, Some, [], ◌∷◌, length, take, drop, slice_get, IsTrue};
+ghost use Rattle.std.specs.Prelude.{pos, ◌++◌, ◌≡◌, ◌↔◌, ◌<◌, ◌≤◌, Some, [], ◌∷◌, length, take, drop, slice_get, IsTrue};
 
 use std::marker::Model;
 
@@ -140,6 +140,13 @@ impl Cell {
             y: self.z,
             z: 0,
         }
+    }
+
+    /// The three coordinates, where those that the cell does not have are 0.
+    pub fn coordinates(&self) -> [i32; 3]
+        ensures { result ≡ take 3 (self.now ++ pos 0 ∷ pos 0 ∷ pos 0 ∷ []) }
+    {
+        [self.x, self.y, self.z]
     }
 
     /// Whether both have the same coordinates.
