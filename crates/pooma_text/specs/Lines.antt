@@ -1,5 +1,5 @@
 -- The lines of a text, and where each of them stands.
-use Rattle.std.specs.Prelude.{◌≡◌, ◌≢◌, ℕ, ◌+◌, ◌==◌, List, [], ◌∷◌, ◌++◌, length, if◌then◌else◌, All, flat_map, slice_range, ◌⊎◌}
+use Rattle.std.specs.Prelude.{◌≡◌, ◌≢◌, ℕ, ◌+◌, ◌≤◌, ◌==◌, List, [], ◌∷◌, ◌++◌, length, if◌then◌else◌, All, flat_map, slice_range, ◌⊎◌}
 use Rattle.pooma_text.specs.declared.span.Span.{Span}
 
 -- the byte that ends a line
@@ -33,3 +33,8 @@ text_at bytes span = slice_range bytes span.start span.end
 abbrev pub spans_from : ℕ → List (List ℕ) → List Span
 spans_from at [] = []
 spans_from at (line ∷ lines) = record { start = at; end = at + length line } ∷ spans_from (at + length line + 1) lines
+
+-- the span is a part of the bytes
+pub record IsPart (bytes : List ℕ) (span : Span) : Type 0 where
+  pub forward : span.start ≤ span.end
+  pub within : span.end ≤ length bytes

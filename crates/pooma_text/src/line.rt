@@ -1,5 +1,5 @@
-ghost use Rattle.std.specs.Prelude.{◌≡◌, IfOk, map};
-ghost use Rattle.pooma_text.specs.Lines.{AreLines, lines_of, spans_from, text_at};
+ghost use Rattle.std.specs.Prelude.{◌≡◌, All, IfOk, map};
+ghost use Rattle.pooma_text.specs.Lines.{AreLines, IsPart, lines_of, spans_from, text_at};
 
 use crate::span::Span;
 use std::alloc::{AllocError, Global};
@@ -11,6 +11,7 @@ use std::alloc::{AllocError, Global};
 pub fn lines(alloc: Global, bytes: &[u8]) -> Result<Vec<Span>, AllocError>
     ensures texts { IfOk result (λ spans. map (text_at bytes.now) spans.items ≡ lines_of bytes.now) }
     ensures places { IfOk result (λ spans. spans.items ≡ spans_from 0 (lines_of bytes.now)) }
+    ensures parts { IfOk result (λ spans. All (IsPart bytes.now) spans.items) }
     // No other lines make up the text.
     ensures cut { AreLines bytes.now (lines_of bytes.now) }
 {

@@ -1,6 +1,7 @@
 use Rattle.std.proofs.Common.{map, ◌∙◌, ap}
 use Rattle.pooma_text.specs.Lines.{text_at}
 use Rattle.pooma_text.proofs.Cuts.{are_lines-lines_of, cut_all, cut_last, cut_line, cut_more, text_at-spans_from}
+use Rattle.pooma_text.proofs.Parts.{parts-spans_from}
 use Rattle.pooma_text.proofs.line.lines.Goals as goal
 use Rattle.pooma_text.proofs.line.lines.Goals.{then-byte-eq10+in_ok-push, else-byte-eq10, then-start-bytes+in_ok-push-2, else-start-bytes}
 
@@ -26,6 +27,9 @@ returns-clause-places c =
 
 pub returns-clause-texts : goal.returns-clause-texts
 returns-clause-texts c = ap (map (text_at c.args.bytes.now)) (returns-clause-places c) ∙ text_at-spans_from c.args.bytes.now
+
+pub returns-clause-parts : goal.returns-clause-parts
+returns-clause-parts c = rw (returns-clause-places c) (parts-spans_from c.args.bytes.now)
 
 pub returns-clause-cut : goal.returns-clause-cut
 returns-clause-cut c = are_lines-lines_of c.args.bytes.now
