@@ -1,0 +1,37 @@
+-- The requests of one object in the order in which they came, and which of them still hold a later one back.
+use Rattle.std.specs.Prelude.{◌≡◌, ◌<◌, ℕ, Bool, true, false, not, ◌&&◌, List, take, slice_get, Option, None, find, option_and_then, AllPairs}
+use Rattle.pooma_queue.specs.declared.queue.Mode.{Mode}
+use Rattle.pooma_queue.specs.declared.queue.Mode.TheVariants.{Read, Write}
+use Rattle.pooma_queue.specs.declared.queue.Asked.{Asked}
+
+-- what contracts see of a queue: its requests, and for how many more there is room
+pub record Waiting : Type 0 where
+  pub requests : List Asked
+  pub room : ℕ
+
+-- two requests of one object conflict where at least one of them is to write
+abbrev pub conflicts : Mode → Mode → Bool
+conflicts Read Read = false
+conflicts Read Write = true
+conflicts Write Read = true
+conflicts Write Write = true
+
+-- whether an earlier request holds a later one of this mode back: it conflicts, and was not released
+abbrev pub holds_back : Mode → Asked → Bool
+holds_back mode earlier = not earlier.released && conflicts earlier.mode mode
+
+-- the first request before the k-th that holds it back, if there is one
+abbrev pub blocker_of : List Asked → ℕ → Option Asked
+blocker_of requests k = option_and_then (λ asked. find (holds_back asked.mode) (take k requests)) (slice_get requests k)
+
+-- no request before the k-th holds it back
+abbrev pub IsGranted : List Asked → ℕ → Type 0
+IsGranted requests k = blocker_of requests k ≡ None
+
+-- each request is of a later entry than those before it
+abbrev pub IsInOrder : List Asked → Type 0
+IsInOrder requests = AllPairs (λ earlier later. earlier.entry < later.entry) requests
+
+-- the request, released
+abbrev pub released : Asked → Asked
+released asked = record asked { released = true }

@@ -1,0 +1,194 @@
+ghost use Rattle.pooma_queue.specs.Requests.{holds_back};
+ghost use Rattle.std.specs.Prelude.{◌≡◌, ◌↔◌, ◌+◌, ◌<◌, ◌≤◌, ◌≢◌, ℕ, List, [], ◌∷◌, ◌++◌, false, length, take, find, All, Some, true, IsTrue, IsOk, IfOk, OnOk, OnErr, IfSome, IsNone, slice_get, slice_set, option_map, vec_len, vec_capacity};
+
+use std::alloc::{AllocError, Global};
+use std::marker::Model;
+
+/// How an entry asks for an object.
+#[derive(Clone, Copy, Debug, PartialEq, Eq)]
+pub enum Mode {
+    /// To look at its value beside others.
+    Read,
+    /// To give it a new value, alone.
+    Write,
+}
+
+/// One request of an object.
+#[derive(Clone, Copy, Debug, PartialEq, Eq)]
+pub struct Asked {
+    /// The number of the entry that asks.
+    pub entry: u32,
+    /// What it asks for.
+    pub mode: Mode,
+    /// Whether the entry has given the object back for good.
+    pub released: bool,
+}
+
+impl Asked {
+    ghost use Rattle.pooma_queue.specs.Requests.{holds_back};
+
+    // Whether this request holds back a later one of the given mode.
+    fn holds_back(&self, mode: Mode) -> bool
+        ensures { result ≡ holds_back mode self.now }
+    {
+        !self.released && (self.mode == Mode::Write || mode == Mode::Write)
+    }
+}
+
+/// The requests of one object, in the order in which they came.
+///
+/// Contracts see them as a list, beside the number of further requests for which there is room.
+#[derive(Drop)]
+pub struct Queue {
+    requests: Vec<Asked>,
+    // Each request before this place was released, so that no call walks over it again.
+    first: usize,
+}
+
+impl Model for Queue {
+    ghost use Rattle.std.specs.Prelude.{◌≡◌, ◌-◌, ◌≤◌, true, take, All, length, vec_len, vec_capacity};
+    ghost use Rattle.pooma_queue.specs.Requests.{Waiting, IsInOrder};
+
+    ghost Value = { Waiting };
+
+    ghost view = { λ q. record { requests = q.requests.items; room = vec_capacity q.requests - vec_len q.requests } };
+
+    ghost invariant = { λ q. IsInOrder q.requests.items × (q.first ≤ length q.requests.items) × All (λ asked. asked.released ≡ true) (take q.first q.requests.items) };
+}
+
+impl Queue {
+    ghost use Rattle.pooma_queue.specs.Requests.{IsInOrder, IsGranted, blocker_of, holds_back, released};
+
+    /// A queue with no requests. It takes no memory.
+    pub fn new(alloc: Global) -> Queue
+        ensures { result.requests ≡ [] }
+    {
+        Queue {
+            requests: Vec::new(alloc),
+            first: 0,
+        }
+    }
+
+    /// Makes room for `n` further requests. The requests stay as they are, also where memory is short.
+    pub fn reserve(&mut self, n: usize) -> Result<(), AllocError>
+        ensures requests { self.new.requests ≡ self.old.requests }
+        ensures ok { OnOk result (n ≤ self.new.room) }
+        ensures room { self.old.room ≤ self.new.room }
+    {
+        self.requests.reserve(n)
+    }
+
+    /// How many requests there are.
+    pub fn len(&self) -> usize
+        ensures { result ≡ length self.now.requests }
+    {
+        self.requests.len()
+    }
+
+    /// Whether there is no request.
+    pub fn is_empty(&self) -> bool
+        ensures { IsTrue result ↔ (self.now.requests ≡ []) }
+    {
+        self.requests.is_empty()
+    }
+
+    /// The request at place `k`.
+    pub fn get(&self, k: usize) -> Asked
+        requires { k < length self.now.requests }
+        ensures asked { slice_get self.now.requests k ≡ Some result }
+        ensures order { IsInOrder self.now.requests }
+    {
+        self.requests[k]
+    }
+
+    /// Puts the request of an entry behind the others, and answers its place. Only want of memory refuses it, never where
+    /// there is room, and then the queue is as before.
+    pub fn push(&mut self, entry: u32, mode: Mode) -> Result<usize, AllocError>
+        requires { All (λ asked. asked.entry < entry) self.old.requests }
+        ensures place { IfOk result (λ place. place ≡ length self.old.requests) }
+        ensures ok { OnOk result (self.new.requests ≡ self.old.requests ++ record { entry = entry; mode = mode; released = false } ∷ []) }
+        ensures room { OnOk result (self.old.room ≤ self.new.room + 1) }
+        ensures succeeds { 0 < self.old.room → IsOk result }
+        ensures err { OnErr result (self.new.requests ≡ self.old.requests) }
+    {
+        let place = self.requests.len();
+        self.requests.push(Asked {
+            entry,
+            mode,
+            released: false,
+        })?;
+        Ok(place)
+    }
+
+    /// Whether the request at place `k` may go on: each earlier one that conflicts with it was released.
+    pub fn granted(&self, k: usize) -> bool
+        requires { k < length self.now.requests }
+        ensures { IsTrue result ↔ IsGranted self.now.requests k }
+    {
+        self.blocker(k).is_none()
+    }
+
+    /// The entry of the first request that holds back the one at place `k`, and None where that one may go on.
+    pub fn blocker(&self, k: usize) -> Option<u32>
+        requires { k < length self.now.requests }
+        ensures first { result ≡ option_map (λ asked. asked.entry) (blocker_of self.now.requests k) }
+        ensures none { IsNone result ↔ IsGranted self.now.requests k }
+    {
+        let mode = self.requests[k].mode;
+        let from = self.first.min(k);
+        first_held(&self.requests[from..k], mode)
+    }
+
+    /// Marks the request at place `k` as released.
+    pub fn release(&mut self, k: usize)
+        requires there { k < length self.old.requests }
+        requires granted { IsGranted self.old.requests k }
+        requires out { IfSome (slice_get self.old.requests k) (λ asked. asked.released ≡ false) }
+        ensures requests { IfSome (slice_get self.old.requests k) (λ asked. self.new.requests ≡ slice_set self.old.requests k (released asked)) }
+        ensures room { self.new.room ≡ self.old.room }
+    {
+        self.requests[k].released = true;
+        self.first = first_open(&self.requests, self.first);
+    }
+}
+
+// The entry of the first request that holds back one of this mode.
+fn first_held(earlier: &[Asked], mode: Mode) -> Option<u32>
+    ensures { result ≡ option_map (λ asked. asked.entry) (find (holds_back mode) earlier.now) }
+{
+    earlier
+        .iter()
+        .find(|asked| asked.holds_back(mode))
+        .map(|asked| asked.entry)
+}
+
+// The first place not below `from` whose request was not released.
+fn first_open(requests: &[Asked], from: usize) -> usize
+    requires within { from ≤ length requests.now }
+    requires before { All (λ asked. asked.released ≡ true) (take from requests.now) }
+    ensures within { result ≤ length requests.now }
+    ensures before { All (λ asked. asked.released ≡ true) (take result requests.now) }
+{
+    let mut first = from;
+    while first < requests.len() && requests[first].released {
+        first += 1;
+    }
+    first
+}
+
+#[cfg(test)]
+mod tests {
+    use super::*;
+    use std::test::Fail;
+
+    #[test]
+    fn a_read_waits_for_the_write_before_it(rt: HostRuntime) -> Result<(), Fail> {
+        let mut queue = Queue::new(rt.alloc());
+        queue.reserve(2)?;
+        assert_eq!(rt; queue.push(0, Mode::Write)?, 0);
+        assert_eq!(rt; queue.push(1, Mode::Read)?, 1);
+        assert!(rt; queue.granted(0));
+        assert_eq!(rt; queue.blocker(1), Some(0));
+        Ok(())
+    }
+}
