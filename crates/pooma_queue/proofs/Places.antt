@@ -1,13 +1,14 @@
 -- What holds at each place of a list, and of its beginnings.
-use Rattle.std.proofs.Common.{◌≡◌, ◌≢◌, ◌+◌, ◌-◌, ◌<◌, ◌≤◌, ℕ, zero, suc, Bool, true, false, List, [], ◌∷◌, length, get_or, take, drop, set, ◌++◌, IfSome, IsNone, ◌↔◌, min, All, find, Option, Some, None, slice_get, option_map, refl, sym, subst, arith, inl, inr, get_or-set_same, get_or-set_other, length-take, length-set}
-use Rattle.std.proofs.lemmas.Bool.Decides.{eqb_tells}
-use Rattle.std.proofs.lemmas.List.{get_or-take}
+use Rattle.std.proofs.Common.{◌≡◌, ◌≢◌, ◌+◌, ◌-◌, ◌<◌, ◌≤◌, ℕ, zero, suc, Bool, true, false, List, [], ◌∷◌, length, get_or, take, drop, set, ◌++◌, IfSome, IsNone, ◌↔◌, map, ◌&&◌, nat_lt, ◌∙◌, ap, min, All, find, Option, Some, None, slice_get, option_map, refl, sym, subst, arith, inl, inr, get_or-set_same, get_or-set_other, length-take, length-set}
+use Rattle.std.proofs.Math.Bool.{and-false}
+use Rattle.std.proofs.lemmas.Bool.Decides.{eqb_tells, leb_tells}
+use Rattle.std.proofs.lemmas.List.{get_or-take, same_lists, get_or-map, get_or_read, length-map}
 use Rattle.std.proofs.lemmas.List.Quantifiers.{all_pairs_push}
 use Rattle.std.proofs.lemmas.Option.{slice_get_read}
 use Rattle.std.proofs.Math.Seq.{take-nil}
 use Rattle.pooma_queue.specs.declared.queue.Mode.{Mode}
 use Rattle.pooma_queue.specs.declared.queue.Asked.{Asked}
-use Rattle.pooma_queue.specs.Requests.{holds_back, blocker_of, released, IsInOrder}
+use Rattle.pooma_queue.specs.Requests.{holds_back, blocker_of, released, IsInOrder, holder_of, let_go}
 
 -- what holds of a beginning holds at each place below its end
 pub at_place : {X : Type 0} (P : X → Type 0) (xs : List X) (n : ℕ) → All P (take n xs) → (k : ℕ) (d : X) → k < n → k < length xs → P (get_or xs k d)
@@ -82,3 +83,81 @@ in_order_push requests asked order later = all_pairs_push (λ a b. a.entry < b.e
 pub none_found : (found : Option ℕ) (request : Option Asked) → found ≡ option_map (λ a. a.entry) request → IsNone found ↔ (request ≡ None)
 none_found found None e = rw e (λ _. refl, λ _. refl)
 none_found found (Some a) e = rw e (λ h. absurd (cc h), λ h. absurd (cc h))
+
+-- a search that begins after a beginning in which there is nothing
+pub find_dropped : {X : Type 0} (p : X → Bool) (xs : List X) (from : ℕ) → All (λ x. p x ≡ false) (take from xs) → find p (drop from xs) ≡ find p xs
+find_dropped p xs zero all = refl
+find_dropped p [] (suc from) all = refl
+find_dropped p (x ∷ xs) (suc from) all =
+    let first : p x ≡ false = all 0 x (omega arith) in
+    let rest : All (λ y. p y ≡ false) (take from xs) = λ i d h. all (suc i) d (omega arith) in
+    rw first (find_dropped p xs from rest)
+
+-- the search for a holder may begin after the released requests
+pub holder_after : (requests : List Asked) (first entry : ℕ) (mode : Mode) → All (λ a. a.released ≡ true) (take first requests)
+    → holder_of (drop first requests) entry mode ≡ holder_of requests entry mode
+holder_after requests first entry mode all =
+    find_dropped (λ a. nat_lt a.entry entry && holds_back mode a) requests first
+    (λ i d h. rw (released_holds_nothing mode (get_or (take first requests) i d) (all i d h)) (and-false _))
+
+-- a released request stays as it is
+pub let_go_released : (entry : ℕ) (asked : Asked) → asked.released ≡ true → let_go entry asked ≡ asked
+let_go_released entry asked e =
+    let same : released asked ≡ asked = ap (λ b. record asked { released = b }) (sym e) in
+    elim (eqb_tells asked.entry entry) [ inl t ↦ rw t.0 same | inr f ↦ rw f.0 refl ]
+
+-- the request of another entry stays as it is
+pub let_go_other : (entry : ℕ) (asked : Asked) → asked.entry ≢ entry → let_go entry asked ≡ asked
+let_go_other entry asked ne =
+    elim (eqb_tells asked.entry entry) [ inl t ↦ absurd (ne t.1) | inr f ↦ rw f.0 refl ]
+
+-- this entry's request is released
+pub let_go_own : (entry : ℕ) (asked : Asked) → asked.entry ≡ entry → let_go entry asked ≡ released asked
+let_go_own entry asked e =
+    elim (eqb_tells asked.entry entry) [ inl t ↦ rw t.0 refl | inr f ↦ absurd (f.1 e) ]
+
+-- nothing changes where this entry has no request that was not released
+pub let_go_none : (requests : List Asked) (entry first : ℕ) → All (λ a. a.released ≡ true) (take first requests)
+    → ((k : ℕ) (d : Asked) → first ≤ k → k < length requests → (get_or requests k d).entry ≢ entry) → map (let_go entry) requests ≡ requests
+let_go_none requests entry first all none =
+    same_lists (map (let_go entry) requests) requests (length-map requests (let_go entry)) (λ k d h.
+    let within : k < length requests = omega (arith, length-map requests (let_go entry)) in
+    get_or-map (let_go entry) requests k d d within ∙ at k d within)
+  where
+    at : (k : ℕ) (d : Asked) → k < length requests → let_go entry (get_or requests k d) ≡ get_or requests k d
+    at k d within =
+        elim (leb_tells first k) [
+          | inl t ↦ let_go_other entry (get_or requests k d) (none k d t.1 within)
+          | inr f ↦ let_go_released entry (get_or requests k d) (at_place (λ a. a.released ≡ true) requests first all k d f.1 within)
+        ]
+
+-- the entries of a queue in order are distinct
+pub other_entry : (requests : List Asked) (i k : ℕ) (d : Asked) → IsInOrder requests → i < length requests → k < length requests → i ≢ k → (get_or requests i d).entry ≢ (get_or requests k d).entry
+other_entry requests i k d order hi hk ne same =
+    elim (leb_tells k i) [
+      | inl t ↦
+          let above : k ≤ i = t.1 in
+          let lt : (get_or requests k d).entry < (get_or requests i d).entry = order k i d (omega arith) hi in
+          absurd (omega arith)
+      | inr f ↦ let lt : (get_or requests i d).entry < (get_or requests k d).entry = order i k d f.1 hk in absurd (omega arith)
+    ]
+
+-- one write releases this entry's request
+pub let_go_set : (requests : List Asked) (entry k : ℕ) (asked : Asked) → IsInOrder requests → k < length requests → asked ≡ get_or requests k asked → asked.entry ≡ entry
+    → set requests k (released asked) ≡ map (let_go entry) requests
+let_go_set requests entry k asked order there is own =
+    same_lists (set requests k (released asked)) (map (let_go entry) requests) (length-set requests k (released asked) ∙ sym (length-map requests (let_go entry))) (λ i d h.
+    let within : i < length requests = omega (arith, length-set requests k (released asked)) in
+    at i d within ∙ sym (get_or-map (let_go entry) requests i d d within))
+  where
+    at : (i : ℕ) (d : Asked) → i < length requests → get_or (set requests k (released asked)) i d ≡ let_go entry (get_or requests i d)
+    at i d within =
+        elim (eqb_tells i k) [
+          | inl t ↦
+              let here : get_or requests i d ≡ asked = ap (λ j. get_or requests j d) t.1 ∙ sym (get_or_read requests k asked there is d) in
+              ap (λ j. get_or (set requests k (released asked)) j d) t.1 ∙ (get_or-set_same requests k (released asked) d there ∙ (sym (let_go_own entry asked own) ∙ ap (let_go entry) (sym here)))
+          | inr f ↦
+              let there' : get_or requests k d ≡ asked = sym (get_or_read requests k asked there is d) in
+              let ne : (get_or requests i d).entry ≢ entry = λ e. other_entry requests i k d order within there f.1 (e ∙ (sym own ∙ ap (λ a. a.entry) (sym there'))) in
+              get_or-set_other requests k i (released asked) d f.1 ∙ sym (let_go_other entry (get_or requests i d) ne)
+        ]

@@ -1,5 +1,5 @@
 -- The requests of one object in the order in which they came, and which of them still hold a later one back.
-use Rattle.std.specs.Prelude.{◌≡◌, ◌<◌, ℕ, Bool, true, false, not, ◌&&◌, List, take, slice_get, Option, None, find, option_and_then, AllPairs}
+use Rattle.std.specs.Prelude.{◌≡◌, ◌<◌, ℕ, Bool, true, false, not, ◌&&◌, List, take, slice_get, Option, None, find, option_and_then, nat_lt, ◌==◌, if◌then◌else◌, AllPairs}
 use Rattle.pooma_queue.specs.declared.queue.Mode.{Mode}
 use Rattle.pooma_queue.specs.declared.queue.Mode.TheVariants.{Read, Write}
 use Rattle.pooma_queue.specs.declared.queue.Asked.{Asked}
@@ -35,3 +35,11 @@ IsInOrder requests = AllPairs (λ earlier later. earlier.entry < later.entry) re
 -- the request, released
 abbrev pub released : Asked → Asked
 released asked = record asked { released = true }
+
+-- the first request of an entry before this one that holds back one of this mode, if there is one
+abbrev pub holder_of : List Asked → ℕ → Mode → Option Asked
+holder_of requests entry mode = find (λ earlier. nat_lt earlier.entry entry && holds_back mode earlier) requests
+
+-- the request, released if it is this entry's
+abbrev pub let_go : ℕ → Asked → Asked
+let_go entry asked = if asked.entry == entry then released asked else asked

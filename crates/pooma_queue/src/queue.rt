@@ -1,5 +1,6 @@
-ghost use Rattle.pooma_queue.specs.Requests.{holds_back};
-ghost use Rattle.std.specs.Prelude.{◌≡◌, ◌↔◌, ◌+◌, ◌<◌, ◌≤◌, ◌≢◌, ℕ, List, [], ◌∷◌, ◌++◌, false, length, take, find, All, Some, true, IsTrue, IsOk, IfOk, OnOk, OnErr, IfSome, IsNone, slice_get, slice_set, option_map, vec_len, vec_capacity};
+ghost use Rattle.pooma_queue.specs.Requests.{holds_back, holder_of};
+ghost use Rattle.pooma_queue.specs.declared.queue.Asked.{Asked};
+ghost use Rattle.std.specs.Prelude.{◌≡◌, ◌↔◌, ◌+◌, ◌<◌, ◌≤◌, ◌≢◌, ℕ, List, [], ◌∷◌, ◌++◌, false, length, map, slice_index_or, take, find, All, Some, true, IsTrue, IsOk, IfOk, OnOk, OnErr, IfSome, IsNone, slice_get, slice_set, option_map, vec_len, vec_capacity};
 
 use std::alloc::{AllocError, Global};
 use std::marker::Model;
@@ -57,7 +58,7 @@ impl Model for Queue {
 }
 
 impl Queue {
-    ghost use Rattle.pooma_queue.specs.Requests.{IsInOrder, IsGranted, blocker_of, holds_back, released};
+    ghost use Rattle.pooma_queue.specs.Requests.{IsInOrder, IsGranted, blocker_of, holder_of, holds_back, let_go, released};
 
     /// A queue with no requests. It takes no memory.
     pub fn new(alloc: Global) -> Queue
@@ -139,6 +140,25 @@ impl Queue {
         first_held(&self.requests[from..k], mode)
     }
 
+    /// The entry of the first request that holds back one of this mode by a later entry, whose own request need not be here.
+    pub fn holder(&self, entry: u32, mode: Mode) -> Option<u32>
+        ensures { result ≡ option_map (λ asked. asked.entry) (holder_of self.now.requests entry mode) }
+    {
+        first_holder(&self.requests[self.first..], entry, mode)
+    }
+
+    /// Marks the request of this entry as released, if there is one.
+    pub fn release_entry(&mut self, entry: u32)
+        ensures requests { self.new.requests ≡ map (let_go entry) self.old.requests }
+        ensures room { self.new.room ≡ self.old.room }
+    {
+        let place = place_of(&self.requests, self.first, entry);
+        if place < self.requests.len() {
+            self.requests[place].released = true;
+            self.first = first_open(&self.requests, self.first);
+        }
+    }
+
     /// Marks the request at place `k` as released.
     pub fn release(&mut self, k: usize)
         requires there { k < length self.old.requests }
@@ -160,6 +180,30 @@ fn first_held(earlier: &[Asked], mode: Mode) -> Option<u32>
         .iter()
         .find(|asked| asked.holds_back(mode))
         .map(|asked| asked.entry)
+}
+
+// The entry of the first request before `entry` that holds back one of this mode.
+fn first_holder(requests: &[Asked], entry: u32, mode: Mode) -> Option<u32>
+    ensures { result ≡ option_map (λ asked. asked.entry) (holder_of requests.now entry mode) }
+{
+    requests
+        .iter()
+        .find(|asked| asked.entry < entry && asked.holds_back(mode))
+        .map(|asked| asked.entry)
+}
+
+// The first place not below `from` with the request of this entry, or the end where there is none.
+fn place_of(requests: &[Asked], from: usize, entry: u32) -> usize
+    requires { from ≤ length requests.now }
+    ensures within { result ≤ length requests.now }
+    ensures found { (d : Asked) → result < length requests.now → (slice_index_or requests.now result d).entry ≡ entry }
+    ensures before { (k : ℕ) (d : Asked) → from ≤ k → k < result → (slice_index_or requests.now k d).entry ≢ entry }
+{
+    let mut place = from;
+    while place < requests.len() && requests[place].entry != entry {
+        place += 1;
+    }
+    place
 }
 
 // The first place not below `from` whose request was not released.
