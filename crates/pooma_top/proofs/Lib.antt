@@ -1,0 +1,13 @@
+mod Bricks
+mod Cut
+mod Forms
+mod LineLemmas
+mod Lists
+mod OneOutput
+mod Meant
+mod Prepared
+mod Rows
+mod Signed
+mod Unique
+mod Words
+mod Written

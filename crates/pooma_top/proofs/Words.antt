@@ -1,0 +1,10 @@
+-- The words of a command.
+use Rattle.std.proofs.Common.{◌≡◌, List, [], ◌∷◌, length, map, get_or, arith, String, Global, string_bytes, ◌≤◌, ◌<◌}
+
+-- two words are these two
+pub two_words : (words : List (String Global)) (a b : String Global) → 2 ≤ length words → length words < 3 → a ≡ get_or words 0 a → b ≡ get_or words 1 b
+    → map string_bytes words ≡ string_bytes a ∷ string_bytes b ∷ []
+two_words [] a b some few at next = absurd (omega arith)
+two_words (v ∷ []) a b some few at next = absurd (omega arith)
+two_words (v ∷ w ∷ []) a b some few at next = cc
+two_words (v ∷ w ∷ x ∷ words) a b some few at next = absurd (omega arith)

@@ -1,0 +1,9 @@
+pub mod Meanings
+pub mod Names
+pub mod Grammar
+pub mod Program
+pub mod Reading
+pub mod Script
+pub mod Serial
+pub mod Status
+pub mod Output

@@ -1,0 +1,66 @@
+ghost use Rattle.std.specs.Prelude.{◌↔◌, IsTrue, Contains, map};
+ghost use Rattle.pooma_top.specs.Names.{IsReserved};
+
+/// The words of the language that are no names.
+const RESERVED: [&[u8]; 41] = [
+    b"layout",
+    b"blocks",
+    b"cuts",
+    b"internal",
+    b"external",
+    b"brick",
+    b"array",
+    b"on",
+    b"field",
+    b"faces",
+    b"constant",
+    b"periodic",
+    b"reflect",
+    b"antireflect",
+    b"extrapolate",
+    b"stencil",
+    b"lower",
+    b"upper",
+    b"scalar",
+    b"print",
+    b"block",
+    b"repeat",
+    b"end",
+    b"index",
+    b"where",
+    b"min",
+    b"max",
+    b"abs",
+    b"sum",
+    b"all",
+    b"any",
+    b"count",
+    b"bitand",
+    b"bitor",
+    b"script",
+    b"when",
+    b"dynamic",
+    b"create",
+    b"destroy",
+    b"backfill",
+    b"shiftup",
+];
+
+/// Whether a word is one of the language's own, which no array may have as its name.
+pub fn is_reserved(word: &[u8]) -> bool
+    ensures { IsTrue result ↔ IsReserved word.now }
+{
+    is_among(&RESERVED, word)
+}
+
+/// Whether a word is one of a list of words.
+fn is_among(words: &[&[u8]], word: &[u8]) -> bool
+    ensures { IsTrue result ↔ Contains (map (λ w. w.now) words.now) word.now }
+{
+    for other in words {
+        if *other == word {
+            return true;
+        }
+    }
+    false
+}
