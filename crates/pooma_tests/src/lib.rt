@@ -1,0 +1,11 @@
+//! The worked examples of the language and hostile inputs, each with the answer that the language gives it.
+#![tactic(auto)]
+
+#[cfg(test)]
+mod answers;
+#[cfg(test)]
+mod ends;
+#[cfg(test)]
+mod refusals;
+#[cfg(test)]
+mod run;

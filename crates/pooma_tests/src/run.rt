@@ -1,0 +1,41 @@
+use pooma_io::{Sink, Source, SureSink, SureSource};
+use pooma_top::{First, Status, top_one};
+use std::alloc::{AllocError, Global};
+
+/// How a run ended, and what it wrote.
+#[derive(Debug, Drop)]
+pub struct Ended {
+    pub status: Status,
+    pub text: Vec<u8>,
+}
+
+/// The words as the command line gives them.
+pub fn words_of(alloc: Global, words: &[&str]) -> Result<Vec<String>, AllocError> {
+    let mut all = Vec::new(alloc);
+    for word in words {
+        all.push(String::from_str(alloc, word)?)?;
+    }
+    Ok(all)
+}
+
+/// Runs with these words and this input, and with a sink that has room enough.
+pub fn run(alloc: Global, words: &[&str], input: &[u8]) -> Result<Ended, AllocError> {
+    let mut source = SureSource::new(Vec::from_slice(alloc, input)?);
+    let mut sink = SureSink::new(alloc, 65_536)?;
+    let status = run_between(alloc, words, &mut source, &mut sink)?;
+    Ok(Ended {
+        status,
+        text: Vec::from_slice(alloc, sink.held())?,
+    })
+}
+
+/// Runs with these words between a source and a sink.
+pub fn run_between<S: Source, K: Sink>(
+    alloc: Global,
+    words: &[&str],
+    source: &mut S,
+    sink: &mut K,
+) -> Result<Status, AllocError> {
+    let words = words_of(alloc, words)?;
+    Ok(top_one(alloc, &words, source, sink, &mut First))
+}
