@@ -3,8 +3,8 @@ use Rattle.std.proofs.Common.{refl, sym, ap, ◌∙◌, subst, arith, lit≤}
 use Rattle.std.proofs.lemmas.Int.{ints, clamps}
 use Rattle.std.proofs.lemmas.List.Elements.{All-head, All-tail, All-cons, All-nil, All-take, All-weaker}
 use Rattle.std.proofs.lemmas.Nat.{mul-le}
-use Rattle.std.proofs.Math.Nat.{mul_comm, mul-pos, le-div_iff_mul-le}
-use Rattle.std.specs.Prelude.{◌+◌, ◌≡◌, ◌≢◌, ◌↔◌, ℕ, zero, suc, ◌-◌, ◌*◌, ◌/◌, ◌^◌, ◌<◌, ◌≤◌, ℤ, pos, ◌+ℤ◌, ◌-ℤ◌, ◌≤ℤ◌, Some, All, List, [], ◌∷◌, length, slice_get, slice_set, take}
+use Rattle.std.proofs.Math.Nat.{mul_comm, mul-pos, le-mul_of_pos_right, le-div_iff_mul-le}
+use Rattle.std.specs.Prelude.{◌+◌, ◌≡◌, ◌≢◌, ◌↔◌, ℕ, zero, suc, ◌-◌, ◌*◌, ◌/◌, ◌^◌, ◌<◌, ◌≤◌, ℤ, pos, ◌+ℤ◌, ◌-ℤ◌, ◌≤ℤ◌, Some, All, List, [], ◌∷◌, length, map, slice_get, slice_set, take}
 use Rattle.pooma_domain.specs.Cells.{Interval, interval, axis_length, IsIn, IsOrdered, IsAxis, IsBox}
 use Rattle.pooma_domain.specs.Operations.{each_of, common, common_axes, shifted, shifted_axis, reach, reaches, grown, grown_axis, HaveCommonCell}
 use Rattle.pooma_domain.specs.Padding.{no_axis, IsPaddedBox, IsPaddedCell, length-padded}
@@ -366,3 +366,37 @@ after_padded d a x y z axes box e h =
     (λ k. box.no_x (omega arith))
     (λ k. box.no_y (omega arith))
     (rw (take_one_more d a x y z dims, e) h)
+
+-- a box of one axis less
+pub rest_padded : (d : ℕ) (x y z : Interval) → IsPaddedBox d x y z → 0 < d → IsPaddedBox (d - 1) y z no_axis
+rest_padded d x y z box some =
+    let few : d ≤ 3 = box.few in
+    let wide : axis_length y * axis_length z ≤ axis_length y * axis_length z * axis_length x =
+    le-mul_of_pos_right (axis_length y * axis_length z) (omega (arith, ints, length_of_axis x box.x_axis, box.x_axis.ordered)) in
+    let turned : axis_length y * axis_length z * axis_length x ≡ volume x y z = omega arith in
+    record {
+      few = omega arith;
+      no_x = λ h. box.no_y (omega arith);
+      no_y = λ h. box.no_z (omega arith);
+      no_z = λ h. refl;
+      x_axis = box.y_axis;
+      y_axis = box.z_axis;
+      z_axis = no_axis_is;
+      countable = omega (arith, wide, turned, box.countable);
+    }
+
+-- the corners of a box lie in it
+pub firsts_in : (axes : List Interval) → All IsOrdered axes → IsIn axes (map (λ axis. axis.first) axes)
+firsts_in [] h = tt
+firsts_in (axis ∷ axes) h =
+    let here : IsOrdered axis = All-head IsOrdered axis axes h in
+    (omega (arith, ints), here, firsts_in axes (All-tail IsOrdered axis axes h))
+
+pub lasts_in : (axes : List Interval) → All IsOrdered axes → IsIn axes (map (λ axis. axis.last) axes)
+lasts_in [] h = tt
+lasts_in (axis ∷ axes) h =
+    let here : IsOrdered axis = All-head IsOrdered axis axes h in
+    (here, omega (arith, ints), lasts_in axes (All-tail IsOrdered axis axes h))
+
+pub some_axis : (d : ℕ) (x y z : Interval) (axes : List Interval) → IsPaddedBox d x y z → take d (x ∷ y ∷ z ∷ []) ≡ axes → 0 < length axes → 0 < d
+some_axis d x y z axes box e some = omega (arith, length-padded d x y z box.few, ap length e)

@@ -1,10 +1,10 @@
 -- Which numbers of a strided axis are not past a last one.
-use Rattle.std.proofs.Common.{refl, sym, ap, ◌∙◌, inl, inr, arith}
+use Rattle.std.proofs.Common.{subst, refl, sym, ap, ◌∙◌, inl, inr, arith}
 use Rattle.std.proofs.lemmas.Int.{ints, by_lt_z}
 use Rattle.std.proofs.lemmas.Nat.{div-add-mod'}
 use Rattle.std.proofs.Math.IntN.{pos-*ℤ-pos, negsuc-*ℤ-pos, *ℤ_comm, suc_ℤ-*ℤ, *ℤ-zero, +ℤ_idr, nat_abs}
 use Rattle.std.proofs.Math.Nat.{mul_comm, mul-le-mul_left, mul-div_left, le-div_iff_mul-le}
-use Rattle.std.specs.Prelude.{◌≡◌, ◌≢◌, ◌↔◌, ◌⊎◌, ℕ, zero, suc, ◌+◌, ◌*◌, ◌/◌, ◌%◌, ◌<◌, ◌≤◌, ℤ, pos, negsuc, neg_ℤ, ◌+ℤ◌, ◌-ℤ◌, ◌*ℤ◌, ◌≤ℤ◌, ◌<ℤ◌, FitsSigned, Some, length, slice_get}
+use Rattle.std.specs.Prelude.{◌≡◌, ◌≢◌, ◌↔◌, ◌⊎◌, ℕ, zero, suc, ◌+◌, ◌-◌, ◌*◌, ◌/◌, ◌%◌, ◌<◌, ◌≤◌, ℤ, pos, negsuc, neg_ℤ, ◌+ℤ◌, ◌-ℤ◌, ◌*ℤ◌, ◌≤ℤ◌, ◌<ℤ◌, FitsSigned, Some, length, slice_get}
 use Rattle.std.specs.Int.{w32}
 use Rattle.pooma_domain.specs.Strides.{striding}
 use Rattle.pooma_domain.specs.Bounds.{IsBounded, IsNotPast}
@@ -161,3 +161,23 @@ quotient_of_exact first x stride way w s k ahead e es h =
     let parts : w / s * s + w % s ≡ w = div-add-mod' w s in
     let whole : w / s * s ≡ k * s = ap (λ q. q * s) quotient in
     (omega (arith, parts, whole, product), quotient)
+
+-- strides add up
+pub strides_add : (s : ℤ) (m n : ℕ) → s *ℤ pos (m + n) ≡ s *ℤ pos m +ℤ s *ℤ pos n
+strides_add (pos s) m n =
+    let all : pos s *ℤ pos (m + n) ≡ pos (s * (m + n)) = pos-*ℤ-pos s (m + n) in
+    all ∙ omega (arith, ints)
+strides_add (negsuc s) m n =
+    let all : negsuc s *ℤ pos (m + n) ≡ neg_ℤ (pos (suc s * (m + n))) = negsuc-*ℤ-pos s (m + n) in
+    let left : negsuc s *ℤ pos m ≡ neg_ℤ (pos (suc s * m)) = negsuc-*ℤ-pos s m in
+    let right : negsuc s *ℤ pos n ≡ neg_ℤ (pos (suc s * n)) = negsuc-*ℤ-pos s n in
+    all ∙ omega (arith, ints, left, right)
+
+-- the last number of a part fits
+pub part_fits : (first stride x : ℤ) (from count all : ℕ) → 0 < count → from + count ≤ all → FitsSigned w32 x → FitsSigned w32 (first +ℤ stride *ℤ pos (all - 1)) → x ≡ first +ℤ stride *ℤ pos from → FitsSigned w32 (x +ℤ stride *ℤ pos (count - 1))
+part_fits first stride x from count all some within f g e =
+    let parts : all - 1 ≡ from + (all - 1 - from) = omega arith in
+    let sum : stride *ℤ pos (all - 1) ≡ stride *ℤ pos from +ℤ stride *ℤ pos (all - 1 - from) =
+    ap (λ n. stride *ℤ pos n) parts ∙ strides_add stride from (all - 1 - from) in
+    let is : first +ℤ stride *ℤ pos (all - 1) ≡ x +ℤ stride *ℤ pos (all - 1 - from) = omega (arith, ints, sum, e) in
+    fits_between x stride (count - 1) (all - 1 - from) (omega arith) f (subst (FitsSigned w32) is g)

@@ -1,4 +1,4 @@
-ghost use Rattle.std.specs.Prelude.{◌≡◌, ◌↔◌, ℕ, ◌*◌, ◌+◌, ◌^◌, ◌<◌, ◌≤◌, ℤ, pos, ◌+ℤ◌, ◌-ℤ◌, ◌≤ℤ◌, ◌<ℤ◌, Option, Some, List, [], ◌∷◌, length, map, slice_get, slice_set, All, IsTrue, IsSome, IfSome};
+ghost use Rattle.std.specs.Prelude.{◌≡◌, ◌↔◌, ℕ, ◌*◌, ◌+◌, ◌^◌, ◌<◌, ◌≤◌, ℤ, pos, ◌+ℤ◌, ◌-ℤ◌, ◌≤ℤ◌, ◌<ℤ◌, Option, Some, List, [], ◌∷◌, length, map, drop, slice_get, slice_set, All, IsTrue, IsSome, IfSome};
 ghost use Rattle.std.specs.Int.{int_max, int_min};
 ghost use Rattle.std.specs.Option.{ForSome};
 ghost use Rattle.pooma_domain.specs.Axes.{interval_of};
@@ -223,6 +223,19 @@ impl BoxN {
         }
     }
 
+    /// The box without its first axis.
+    pub fn rest(&self) -> BoxN
+        requires { 0 < length self.now }
+        ensures { result ≡ drop 1 self.now }
+    {
+        BoxN {
+            dims: self.dims - 1,
+            x: self.y,
+            y: self.z,
+            z: Span::NONE,
+        }
+    }
+
     /// How many axes the box has.
     pub fn dims(&self) -> usize
         ensures value { result ≡ length self.now }
@@ -254,7 +267,8 @@ impl BoxN {
 
     /// The cell with the least number of each axis.
     pub fn least(&self) -> Cell
-        ensures { result ≡ map (λ axis. axis.first) self.now }
+        ensures value { result ≡ map (λ axis. axis.first) self.now }
+        ensures inside { IsIn self.now result }
     {
         Cell {
             dims: self.dims,
@@ -266,7 +280,8 @@ impl BoxN {
 
     /// The cell with the greatest number of each axis.
     pub fn greatest(&self) -> Cell
-        ensures { result ≡ map (λ axis. axis.last) self.now }
+        ensures value { result ≡ map (λ axis. axis.last) self.now }
+        ensures inside { IsIn self.now result }
     {
         Cell {
             dims: self.dims,

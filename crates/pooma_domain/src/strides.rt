@@ -1,4 +1,4 @@
-ghost use Rattle.std.specs.Prelude.{◌≡◌, ◌≢◌, ◌↔◌, ℕ, ◌<◌, ◌-◌, ℤ, pos, ◌+ℤ◌, ◌-ℤ◌, ◌*ℤ◌, ◌≤ℤ◌, ◌<ℤ◌, Some, slice_get, IsSome, IfSome, FitsSigned};
+ghost use Rattle.std.specs.Prelude.{◌+◌, ◌≤◌, ◌≡◌, ◌≢◌, ◌↔◌, ℕ, ◌<◌, ◌-◌, ℤ, pos, ◌+ℤ◌, ◌-ℤ◌, ◌*ℤ◌, ◌≤ℤ◌, ◌<ℤ◌, Some, slice_get, IsSome, IfSome, FitsSigned};
 ghost use Rattle.std.specs.Int.{w32};
 ghost use Rattle.pooma_domain.specs.Bounds.{IsBounded, IsNotPast};
 
@@ -51,6 +51,21 @@ impl Strided {
         ensures stands { slice_get (elements self.now) k ≡ Some result }
     {
         (i64::from(self.first) + i64::from(self.stride) * i64::from(k)) as i32
+    }
+
+    /// So many of the numbers, from the one at this place on.
+    pub fn part(&self, from: u32, count: u32) -> Strided
+        requires some { 0 < count }
+        requires within { from + count ≤ self.now.count }
+        ensures first { result.first ≡ self.now.first +ℤ self.now.stride *ℤ pos from }
+        ensures stride { result.stride ≡ self.now.stride }
+        ensures count { result.count ≡ count }
+    {
+        Strided {
+            first: self.at(from),
+            stride: self.stride,
+            count,
+        }
     }
 
     /// The place of the number, counted from 0. None where it is not one of these numbers.
