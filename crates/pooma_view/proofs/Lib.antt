@@ -1,0 +1,7 @@
+pub mod Corners
+pub mod Lines
+pub mod Overlaps
+pub mod Parts
+pub mod Runs
+pub mod SlotLists
+pub mod Solutions

@@ -1,0 +1,5 @@
+pub mod Common
+pub mod Overlap
+pub mod Slots
+pub mod Steps
+pub mod Views

@@ -1,0 +1,12 @@
+//! Views: cells of an array that are named by positions, and when two views of one array overlap.
+#![tactic(auto)]
+
+mod common;
+mod slots;
+mod views;
+
+pub use slots::Slot;
+pub use views::View;
+
+#[cfg(test)]
+mod tests;

@@ -1,0 +1,135 @@
+ghost use Rattle.std.specs.Prelude.{◌≡◌, ◌<◌, ℤ, Some, List, length, ◌↔◌, ◌≤ℤ◌, IsTrue, IfSome, IsSomeAnd};
+ghost use Rattle.pooma_domain.specs.Cells.{IsBox};
+
+use crate::common::common_ends;
+use pooma_domain::{Axis, BoxN, Cell, Strided};
+
+/// What a view says of one axis of its array.
+#[derive(Clone, Copy, Debug, PartialEq, Eq)]
+pub enum Slot {
+    /// Each cell of the view has this coordinate.
+    Fixed(i32),
+
+    /// The cells of the view have these coordinates, one for each place on an axis of positions.
+    Along(Strided),
+}
+
+impl Slot {
+    ghost use Rattle.pooma_view.specs.Common.{NamesNumber};
+    ghost use Rattle.pooma_view.specs.Slots.{with_places, coordinate, left_over, first_named, last_named, Accepts, HasPlaces, IsWithinPlaces, IsRestricted};
+
+    // The box of positions, where that of the later slots is known.
+    pub(crate) fn with_places(self, later: &BoxN) -> BoxN
+        requires { IsBox (with_places self later.now) }
+        ensures { result ≡ with_places self later.now }
+    {
+        match self {
+            Slot::Fixed(_) => *later,
+            Slot::Along(numbers) => later.after(Axis {
+                first: 0,
+                last: (numbers.count - 1) as i32,
+            }),
+        }
+    }
+
+    // The coordinate at a position, of which these numbers are left.
+    pub(crate) fn coordinate(self, position: &Cell) -> i32
+        requires { Accepts self position.now }
+        ensures { result ≡ coordinate self position.now }
+    {
+        match self {
+            Slot::Fixed(x) => x,
+            Slot::Along(numbers) => numbers.at(position.at(0) as u32),
+        }
+    }
+
+    // The numbers of the position that are left for the later slots.
+    pub(crate) fn left_over(self, position: &Cell) -> Cell
+        requires { Accepts self position.now }
+        ensures { result ≡ left_over self position.now }
+    {
+        match self {
+            Slot::Fixed(_) => *position,
+            Slot::Along(_) => position.rest(),
+        }
+    }
+
+    // The numbers of the one position that names this coordinate, where those of the later slots
+    // are known.
+    pub(crate) fn place_of(self, x: i32, later: &Cell) -> Option<Cell>
+        requires few { length later.now < 3 }
+        requires fits { HasPlaces self }
+        ensures found { IfSome result (λ p. Accepts self p × (coordinate self p ≡ x) × (left_over self p ≡ later.now)) }
+        ensures only_one { (p : List ℤ) → Accepts self p → coordinate self p ≡ x → left_over self p ≡ later.now → result ≡ Some p }
+    {
+        match self {
+            Slot::Fixed(here) => { if here == x { Some(*later) } else { None } }
+            Slot::Along(numbers) => {
+                let place = numbers.place_of(x)?;
+                Some(later.after(place as i32))
+            }
+        }
+    }
+
+    // The coordinates at the first and at the last place.
+    pub(crate) fn ends(self) -> (i32, i32)
+        ensures first { result.0 ≡ first_named self }
+        ensures last { result.1 ≡ last_named self }
+    {
+        match self {
+            Slot::Fixed(x) => (x, x),
+            Slot::Along(numbers) => (numbers.first, numbers.at(numbers.count - 1)),
+        }
+    }
+
+    // The slot at the places of the first axis of this box of positions, counted from 0 again.
+    pub(crate) fn restrict(self, places: &BoxN) -> Slot
+        requires { IsWithinPlaces self places.now }
+        ensures { IsRestricted self result places.now }
+    {
+        match self {
+            Slot::Fixed(_) => self,
+            Slot::Along(numbers) => {
+                let axis = places.axis(0);
+                let count = (axis.last - axis.first + 1) as u32;
+                Slot::Along(numbers.part(axis.first as u32, count))
+            }
+        }
+    }
+
+    // The axes of a box of positions that are left for the later slots.
+    pub(crate) fn later_places(self, places: &BoxN) -> BoxN
+        requires { IsWithinPlaces self places.now }
+        ensures { result ≡ left_over self places.now }
+    {
+        match self {
+            Slot::Fixed(_) => *places,
+            Slot::Along(_) => places.rest(),
+        }
+    }
+
+    // Whether the slot names this coordinate at some position.
+    fn names(self, x: i32) -> bool
+        ensures { IsTrue result ↔ NamesNumber self x }
+    {
+        match self {
+            Slot::Fixed(here) => here == x,
+            Slot::Along(numbers) => numbers.place_of(x).is_some(),
+        }
+    }
+
+    // The least and the greatest coordinate that both slots name.
+    pub(crate) fn common_ends(self, other: Slot) -> Option<(i32, i32)>
+        ensures least { IfSome result (λ ends. NamesNumber self ends.0 × NamesNumber other ends.0) }
+        ensures greatest { IfSome result (λ ends. NamesNumber self ends.1 × NamesNumber other ends.1) }
+        ensures between { (z : ℤ) → NamesNumber self z → NamesNumber other z → IsSomeAnd result (λ ends. (ends.0 ≤ℤ z) × (z ≤ℤ ends.1)) }
+    {
+        match self {
+            Slot::Fixed(x) => { if other.names(x) { Some((x, x)) } else { None } }
+            Slot::Along(numbers) => match other {
+                Slot::Fixed(x) => { if self.names(x) { Some((x, x)) } else { None } }
+                Slot::Along(others) => common_ends(numbers, others),
+            },
+        }
+    }
+}
