@@ -1,3 +1,5 @@
+ghost use Rattle.std.specs.Prelude.{◌≡◌, ◌<◌, ◌≤◌};
+
 use crate::{Slot, View};
 use pooma_domain::{Axis, BoxN, Strided};
 use std::test::Fail;
@@ -24,5 +26,41 @@ fn a_view_names_its_cells(rt: HostRuntime) -> Result<(), Fail> {
     let narrow = Axis::of(0, 4).ok_or("an axis")?;
     assert!(rt; view.within(&BoxN::of2(inside, inside)));
     assert!(rt; !view.within(&BoxN::of2(inside, narrow)));
+    Ok(())
+}
+
+// So many numbers from 0 on.
+fn up_to(count: u32) -> Strided
+    requires { (0 < count) × (count ≤ 1000) }
+    ensures { result.count ≡ count }
+{
+    Strided {
+        first: 0,
+        stride: 1,
+        count,
+    }
+}
+
+// Whether a column that is read overlaps a row that is written, over so many places.
+fn column_overlaps_row(column: i32, row: i32, count: u32) -> bool
+    requires { (0 < count) × (count ≤ 1000) }
+{
+    let places = up_to(count);
+    let read = View::new(0, &[Slot::Along(places), Slot::Fixed(column)]);
+    let target = View::new(0, &[Slot::Fixed(row), Slot::Along(places)]);
+    read.overlaps(&target)
+}
+
+#[test]
+fn a_column_overlaps_a_row_off_the_diagonal(rt: HostRuntime) -> Result<(), Fail> {
+    let table = [
+        (3, 3, 8, false),
+        (3, 2, 4, true),
+        (3, 2, 3, false),
+        (0, 0, 1, false),
+    ];
+    for (column, row, count, is_overlap) in table {
+        assert_eq!(rt; column_overlaps_row(column, row, count), is_overlap);
+    }
     Ok(())
 }
