@@ -6,9 +6,10 @@ use std::alloc::{AllocError, Global};
 use std::marker::Model;
 
 /// How an entry asks for an object.
-#[derive(Clone, Copy, Debug, PartialEq, Eq)]
+#[derive(Clone, Copy, Debug, Default, PartialEq, Eq)]
 pub enum Mode {
     /// To look at its value beside others.
+    #[default]
     Read,
     /// To give it a new value, alone.
     Write,
@@ -70,11 +71,13 @@ impl Queue {
         }
     }
 
-    /// Makes room for `n` further requests. The requests stay as they are, also where memory is short.
+    /// Makes room for `n` further requests. The requests stay as they are, also where memory is short. Where there is room
+    /// already it takes none.
     pub fn reserve(&mut self, n: usize) -> Result<(), AllocError>
         ensures requests { self.new.requests ≡ self.old.requests }
         ensures ok { OnOk result (n ≤ self.new.room) }
         ensures room { self.old.room ≤ self.new.room }
+        ensures succeeds { 0 < n → n ≤ self.old.room → IsOk result }
     {
         self.requests.reserve(n)
     }
