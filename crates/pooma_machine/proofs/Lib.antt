@@ -1,0 +1,10 @@
+pub mod Queues
+pub mod Listed
+pub mod Plans
+pub mod Ties
+pub mod Holders
+pub mod Keeps
+pub mod Worth
+pub mod Lending
+pub mod Dispatching
+pub mod Ends

@@ -1,0 +1,11 @@
+pub mod Steps
+pub mod Values
+pub mod Behind
+pub mod Lines
+pub mod Kept
+pub mod Refusals
+pub mod Slots
+pub mod Machine
+pub mod Causes
+pub mod Told
+pub mod Journal

@@ -1,0 +1,20 @@
+//! The iterate machine: entries ask for objects, are dispatched once nothing earlier conflicts with them, and give their
+//! values back. It has no threads.
+#![tactic(auto)]
+
+pub use journal::{Entry, Journal, ListJournal, NoJournal, RequestList};
+pub use loan::{Done, Loan};
+pub use machine::{DispatchError, Machine};
+pub use step::{Event, EventKind, Request, Status};
+pub use work::Work;
+
+mod journal;
+mod lines;
+mod loan;
+mod machine;
+mod slot;
+mod step;
+mod table;
+#[cfg(test)]
+mod tests;
+mod work;

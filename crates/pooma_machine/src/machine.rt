@@ -1,0 +1,369 @@
+ghost use Rattle.std.specs.Option.{ForSome};
+ghost use Rattle.pooma_machine.specs.declared.slot.Slot.{Slot};
+ghost use Rattle.std.specs.Prelude.{◌≡◌, ◌↔◌, ◌+◌, ◌-◌, ◌^◌, ◌<◌, ◌≤◌, ℕ, List, [], ◌∷◌, ◌++◌, Some, None, Ok, Err, slice_get, All, IfOk, OnOk, OnErr, IfErr, IsOk, IsTrue, MatchOption, IsOkUnless, IsSome, is_some, length, map, filter_map, option_map, option_and_then, option_copied, vec_len, vec_capacity};
+ghost use Rattle.std.specs.Arc.{arc_value};
+ghost use Rattle.pooma_machine.specs.Steps.{NoneOut, IsLeastUnreleased, IsLeastReady, IsReady, IsHeldBack, IsDispatchedAt, IsLegal, is_out, is_released, status_of, event_of};
+ghost use Rattle.pooma_machine.specs.Values.{asks_of, values, read_objects, written_object, is_write, IsComplete};
+ghost use Rattle.pooma_machine.specs.Slots.{value_at, value_in, PutBack};
+
+use crate::loan::{Done, Loan};
+use crate::slot::{Slot, share, take};
+use crate::step::{Event, Request};
+use crate::table::{Refusal, Table};
+use crate::work::Work;
+use pooma_queue::Mode;
+use std::alloc::{AllocError, Global};
+use std::marker::Model;
+use std::snapshot::Snapshot;
+use std::sync::Arc;
+
+/// Entries over numbered objects: each is requested, dispatched once nothing earlier conflicts with it, and released.
+///
+/// Contracts see a machine as the works of its entries, the objects' values before the first event, the history, and the
+/// number of further entries for which there surely is room. The objects' present values and the outcomes are the
+/// `values` that these give.
+#[derive(Drop)]
+pub struct Machine<W: Work> {
+    table: Table<W>,
+    slots: Vec<Slot<W::Value>>,
+    outcomes: Vec<Option<W::Outcome>>,
+    opening: Snapshot<Vec<Arc<W::Value>>>,
+}
+
+impl<W: Work> Model for Machine<W> {
+    ghost use Rattle.std.specs.Prelude.{◌≡◌, ◌+◌, ◌≤◌, map, length, vec_capacity};
+    ghost use Rattle.std.specs.Arc.{arc_value};
+    ghost use Rattle.pooma_machine.specs.Values.{Account};
+    ghost use Rattle.pooma_machine.specs.Machine.{Matches};
+
+    ghost Value = { Account W W.Value };
+
+    ghost view = { λ m. record { plan = m.table.plan; opening = map arc_value m.opening.value.items; history = m.table.history; spare = m.table.spare } };
+
+    ghost invariant = { λ m. Matches W.meaning m.table.plan (map arc_value m.opening.value.items) m.table.history m.slots.items m.outcomes.items × (m.table.objects ≡ length m.slots.items) × (length m.table.plan + m.table.spare ≤ vec_capacity m.outcomes) };
+}
+
+/// Why an entry was not dispatched.
+#[derive(Clone, Copy, Debug, PartialEq, Eq)]
+pub enum DispatchError {
+    /// It was dispatched before, at this seat.
+    Already {
+        /// The seat of that dispatch.
+        seat: u32,
+    },
+    /// An earlier entry holds it back.
+    NotReady {
+        /// The first object over which the two conflict.
+        object: u32,
+        /// The least entry that holds it back.
+        by: u32,
+    },
+    /// There was no memory for its loan.
+    OutOfMemory,
+}
+
+impl<W: Work> Machine<W> {
+    ghost use Rattle.pooma_machine.specs.declared.step.EventKind.TheVariants as kind;
+    ghost use Rattle.pooma_machine.specs.declared.machine.DispatchError.{DispatchError};
+    ghost use Rattle.pooma_machine.specs.Machine.{FitsShapes};
+    ghost use Rattle.pooma_machine.specs.Causes.{Explains};
+
+    /// A machine of no entries, with objects of these values. Only want of memory refuses it, and hands them back.
+    pub fn new(alloc: Global, objects: Vec<Arc<W::Value>>) -> Result<Machine<W>, Vec<Arc<W::Value>>>
+        requires { length objects.items < 2 ^ 32 }
+        ensures plan { IfOk result (λ machine. machine.plan ≡ []) }
+        ensures opening { IfOk result (λ machine. machine.opening ≡ map arc_value objects.items) }
+        ensures history { IfOk result (λ machine. machine.history ≡ []) }
+        ensures given_back { IfErr result (λ given. given.items ≡ objects.items) }
+    {
+        let opening = Snapshot::of(&objects);
+        let table = match Table::new(alloc, objects.len()) {
+            Ok(table) => table,
+            Err(_) => return Err(objects),
+        };
+        let slots = match Vec::with_capacity(alloc, objects.len()) {
+            Ok(slots) => slots,
+            Err(_) => return Err(objects),
+        };
+        Ok(Machine {
+            table,
+            slots: shared(slots, objects),
+            outcomes: Vec::new(alloc),
+            opening,
+        })
+    }
+
+    /// The objects by number, once every entry was released. After want of memory the machine and its values are given up.
+    pub fn finish(self, alloc: Global) -> Result<Vec<Arc<W::Value>>, AllocError>
+        requires { IsComplete self.plan self.history }
+        ensures { IfOk result (λ objects. map arc_value objects.items ≡ (values W.meaning self.plan self.opening self.history).objects) }
+    {
+        let Machine {
+            table,
+            slots,
+            outcomes,
+            opening,
+        } = self;
+        drop(table);
+        drop(outcomes);
+        drop(opening);
+        brought_home(alloc, slots)
+    }
+
+    /// Makes spare room for at least so many further entries. It takes room for a request of each in the queue of each
+    /// object, so it is meant for few objects. Nothing else changes, also where memory is short.
+    pub fn reserve(&mut self, entries: u32) -> Result<(), AllocError>
+        ensures ok { OnOk result (entries ≤ self.new.spare) }
+        ensures spare { self.old.spare ≤ self.new.spare }
+        ensures plan { self.new.plan ≡ self.old.plan }
+        ensures opening { self.new.opening ≡ self.old.opening }
+        ensures history { self.new.history ≡ self.old.history }
+    {
+        self.outcomes.reserve(entries as usize)?;
+        self.table.reserve(entries)
+    }
+
+    /// Issues the next entry, and answers its number. The machine and the entry's loan share the work. Only want of memory
+    /// refuses it, never while there is spare room; then the machine is as before, and the work is handed back.
+    pub fn request(&mut self, seat: u32, work: Arc<W>) -> Result<u32, Arc<W>>
+        requires objects { All (λ r. r.object < length self.old.opening) (W.meaning.requests (arc_value work)) }
+        requires fits { FitsShapes W.meaning (map W.meaning.shape self.old.opening) (arc_value work) }
+        requires fewer { length self.old.plan + 1 < 2 ^ 32 }
+        ensures entry { IfOk result (λ entry. entry ≡ length self.old.plan) }
+        ensures plan { OnOk result (self.new.plan ≡ self.old.plan ++ arc_value work ∷ []) }
+        ensures history { OnOk result (self.new.history ≡ self.old.history ++ event_of kind.Request (length self.old.plan) seat ∷ []) }
+        ensures opening { self.new.opening ≡ self.old.opening }
+        ensures spare { OnOk result (self.new.spare ≡ self.old.spare - 1) }
+        ensures succeeds { 0 < self.old.spare → IsOk result }
+        ensures err { OnErr result (self.new ≡ self.old) }
+        ensures given_back { IfErr result (λ given. arc_value given ≡ arc_value work) }
+    {
+        if self.outcomes.reserve(1).is_err() {
+            return Err(work);
+        }
+        let entry = self.table.request(seat, work)?;
+        self.outcomes.push_reserved(None);
+        Ok(entry)
+    }
+
+    /// Lends the entry what it asked for, at this seat. It is refused where the entry was dispatched before, then where an
+    /// earlier entry holds it back, and then for want of memory; the machine is then as before. A value is copied only
+    /// where another owner still shares one that is to be written.
+    pub fn dispatch(&mut self, alloc: Global, seat: u32, j: u32) -> Result<Loan<W>, DispatchError>
+        requires { j < length self.old.plan }
+        // Each answer comes exactly where it is said here, but for want of memory.
+        ensures ready { OnOk result (IsReady (asks_of W.meaning self.old.plan) self.old.history j) }
+        ensures refused { IfErr result (Explains (asks_of W.meaning self.old.plan) self.old.history j) }
+        ensures already { (at : ℕ) → IsDispatchedAt self.old.history j at → result ≡ Err (DispatchError.Already at) }
+        ensures not_ready { (object by : ℕ) → IsHeldBack (asks_of W.meaning self.old.plan) self.old.history j object by → result ≡ Err (DispatchError.NotReady object by) }
+
+        // Where none is out, nothing holds the least unreleased entry back.
+        ensures progress { NoneOut self.old.history → IsLeastUnreleased (length self.old.plan) self.old.history j → IsOkUnless result DispatchError.OutOfMemory }
+
+        // The dispatch is the next event, and nothing else changes.
+        ensures history { OnOk result (self.new.history ≡ self.old.history ++ event_of kind.Dispatch j seat ∷ []) }
+        ensures plan { self.new.plan ≡ self.old.plan }
+        ensures opening { self.new.opening ≡ self.old.opening }
+        ensures spare { self.new.spare ≡ self.old.spare }
+        ensures err { OnErr result (self.new ≡ self.old) }
+
+        // The loan has the entry's work and the present values of its objects.
+        ensures out { OnOk result (IsTrue (is_out (status_of self.new.history j))) }
+        ensures entry { IfOk result (λ loan. loan.entry ≡ j) }
+        ensures work { IfOk result (λ loan. slice_get self.old.plan j ≡ Some loan.work) }
+        ensures lent { IfOk result (λ loan. loan.lent ≡ (values W.meaning self.new.plan self.new.opening self.new.history).lent j) }
+    {
+        match self.table.check(j) {
+            Err(Refusal::Already(seat)) => return Err(DispatchError::Already { seat }),
+            Err(Refusal::NotReady(object, by)) => {
+                return Err(DispatchError::NotReady { object, by });
+            }
+            Ok(()) => {}
+        }
+        let work = match self.table.share_work(j) {
+            Ok(work) => work,
+            Err(_) => return Err(DispatchError::OutOfMemory),
+        };
+        let reads = match lend_reads(alloc, &mut self.slots, work.requests()) {
+            Ok(reads) => reads,
+            Err(_) => return Err(DispatchError::OutOfMemory),
+        };
+        let written = match lend_written::<W>(alloc, &mut self.slots, written(work.requests())) {
+            Ok(written) => written,
+            Err(_) => return Err(DispatchError::OutOfMemory),
+        };
+        self.table.dispatch(seat, j);
+        Ok(Loan::new(j, work, written, reads))
+    }
+
+    /// Takes back what this machine lent to an entry that is out: the object that its work writes has the new value, and the
+    /// outcome is kept. It takes no memory, and can't be refused.
+    pub fn release(&mut self, seat: u32, done: Done<W>)
+        requires within { done.entry < length self.old.plan }
+        requires out { IsTrue (is_out (status_of self.old.history done.entry)) }
+        requires work { slice_get self.old.plan done.entry ≡ Some done.work }
+        requires lent { done.lent ≡ (values W.meaning self.old.plan self.old.opening self.old.history).lent done.entry }
+        ensures history { self.new.history ≡ self.old.history ++ event_of kind.Release done.entry seat ∷ [] }
+        ensures plan { self.new.plan ≡ self.old.plan }
+        ensures opening { self.new.opening ≡ self.old.opening }
+        ensures spare { self.new.spare ≡ self.old.spare }
+    {
+        let j = done.entry();
+        let (work, value, outcome) = done.kept();
+        self.table.release(seat, j);
+        give_back(&mut self.slots, written(work.requests()), value);
+        self.outcomes[j as usize] = Some(outcome);
+    }
+
+    /// What has happened so far. It is legal.
+    pub fn history(&self) -> &[Event]
+        ensures events { result.now ≡ self.now.history }
+        ensures legal { IsLegal (asks_of W.meaning self.now.plan) self.now.history }
+    {
+        self.table.history()
+    }
+
+    /// Whether every entry was released.
+    pub fn all_released(&self) -> bool
+        ensures { IsTrue result ↔ IsComplete self.now.plan self.now.history }
+    {
+        self.table.least_unreleased().is_none()
+    }
+
+    /// The least entry that was not released. None exactly where each was.
+    pub fn least_unreleased(&self) -> Option<u32>
+        ensures { MatchOption result (IsComplete self.now.plan self.now.history) (IsLeastUnreleased (length self.now.plan) self.now.history) }
+    {
+        self.table.least_unreleased()
+    }
+
+    /// The least entry not below `from` that is waiting and that no earlier entry holds back. None exactly where there is none.
+    pub fn ready_from(&self, from: u32) -> Option<u32>
+        ensures { MatchOption result ((j : ℕ) → from ≤ j → IsReady (asks_of W.meaning self.now.plan) self.now.history j → ⊥) (IsLeastReady (asks_of W.meaning self.now.plan) self.now.history from) }
+    {
+        self.table.ready_from(from)
+    }
+
+    /// How many entries were issued.
+    pub fn issued(&self) -> u32
+        ensures { result ≡ length self.now.plan }
+    {
+        self.table.issued()
+    }
+
+    /// The work of an entry.
+    pub fn work(&self, j: u32) -> &W
+        requires { j < length self.now.plan }
+        ensures { slice_get self.now.plan j ≡ Some result.now }
+    {
+        self.table.work(j)
+    }
+
+    /// What the entry's work answered. None exactly where it is not released.
+    pub fn outcome(&self, j: u32) -> Option<&W::Outcome>
+        requires { j < length self.now.plan }
+        ensures value { option_copied result ≡ (values W.meaning self.now.plan self.now.opening self.now.history).outcome j }
+        ensures released { is_some result ≡ is_released (status_of self.now.history j) }
+    {
+        self.outcomes[j as usize].as_ref()
+    }
+}
+
+// The object that the requests ask to write.
+fn written(requests: &[Request]) -> Option<u32>
+    ensures { result ≡ written_object requests.now }
+{
+    requests
+        .iter()
+        .find(|request| is_write(request.mode))
+        .map(|request| request.object)
+}
+
+fn is_write(mode: Mode) -> bool
+    ensures { result ≡ is_write mode }
+{
+    match mode {
+        Mode::Read => false,
+        Mode::Write => true,
+    }
+}
+
+// Shares the values of the objects that the requests ask to read. No value changes, also where memory is short.
+fn lend_reads<V: Drop>(
+    alloc: Global,
+    slots: &mut [Slot<V>],
+    requests: &[Request],
+) -> Result<Vec<Arc<V>>, AllocError>
+    requires objects { All (λ r. r.object < length slots.old) requests.now }
+    requires home { All (λ r. IsSome (value_at slots.old r.object)) requests.now }
+    ensures count { length slots.new ≡ length slots.old }
+    ensures same { (o : ℕ) → value_at slots.new o ≡ value_at slots.old o }
+    ensures ok { IfOk result (λ reads. map arc_value reads.items ≡ filter_map (value_at slots.old) (read_objects requests.now)) }
+{
+    let mut reads = Vec::new(alloc);
+    for request in requests {
+        if !is_write(request.mode) {
+            let arc = share(alloc, &mut slots[request.object as usize])?;
+            reads.push(arc)?;
+        }
+    }
+    Ok(reads)
+}
+
+// Takes the value of this object, if there is one. After want of memory no value has changed.
+fn lend_written<W: Work>(
+    alloc: Global,
+    slots: &mut [Slot<W::Value>],
+    object: Option<u32>,
+) -> Result<Option<W::Value>, AllocError>
+    requires there { ForSome object (λ o. o < length slots.old) }
+    requires home { ForSome object (λ o. IsSome (value_at slots.old o)) }
+    ensures count { length slots.new ≡ length slots.old }
+    ensures others { (o : ℕ) → (object ≡ Some o → ⊥) → value_at slots.new o ≡ value_at slots.old o }
+    ensures ok { IfOk result (λ written. written ≡ option_and_then (value_at slots.old) object) }
+    ensures away { OnOk result ((o : ℕ) → object ≡ Some o → value_at slots.new o ≡ None) }
+    ensures err { OnErr result ((o : ℕ) → value_at slots.new o ≡ value_at slots.old o) }
+{
+    match object {
+        None => Ok(None),
+        Some(object) => Ok(Some(take::<W>(alloc, &mut slots[object as usize])?)),
+    }
+}
+
+// Puts the value back to this object, if there are both.
+fn give_back<V: Drop>(slots: &mut [Slot<V>], object: Option<u32>, value: Option<V>)
+    requires { ForSome object (λ o. o < length slots.old) }
+    ensures { PutBack slots.old slots.new object value }
+{
+    match (object, value) {
+        (Some(object), Some(value)) => slots[object as usize] = Slot::Owned(value),
+        (_, _) => {}
+    }
+}
+
+// The objects' values, each where others may share it.
+fn shared<V: Drop>(mut slots: Vec<Slot<V>>, objects: Vec<Arc<V>>) -> Vec<Slot<V>>
+    requires empty { slots.items ≡ [] }
+    requires room { length objects.items ≤ vec_capacity slots }
+    ensures { result.items ≡ map (λ arc. Slot.Shared arc) objects.items }
+{
+    for arc in objects {
+        slots.push_reserved(Slot::Shared(arc));
+    }
+    slots
+}
+
+// The objects' values, none of which is away.
+fn brought_home<V: Drop>(alloc: Global, slots: Vec<Slot<V>>) -> Result<Vec<Arc<V>>, AllocError>
+    ensures { IfOk result (λ objects. map value_in slots.items ≡ map (λ arc. Some (arc_value arc)) objects.items) }
+{
+    let mut objects = Vec::new(alloc);
+    for slot in slots {
+        match slot {
+            Slot::Shared(arc) => objects.push(arc)?,
+            Slot::Owned(value) => objects.push(Arc::new(alloc, value)?)?,
+            Slot::Away => return Err(AllocError),
+        }
+    }
+    Ok(objects)
+}

@@ -1,0 +1,268 @@
+ghost use Rattle.std.specs.Prelude.{◌≡◌, ◌↔◌, ◌⊎◌, ◌+◌, ◌-◌, ◌*◌, ◌^◌, ◌<◌, ◌≤◌, ℕ, [], ◌∷◌, ◌++◌, Some, None, slice_get, All, IfOk, OnOk, OnErr, IsOk, IfErr, IsTrue, MatchOption, length, vec_len, vec_capacity};
+ghost use Rattle.std.specs.Arc.{arc_value};
+ghost use Rattle.pooma_machine.specs.Steps.{IsLeastUnreleased, IsLeastReady, IsReady, IsHeldBack, IsDispatchedAt, IsLegal, is_out, status_of, event_of};
+ghost use Rattle.pooma_machine.specs.Values.{asks_of, IsComplete};
+ghost use Rattle.pooma_machine.specs.Kept.{IsSound, Schedule};
+
+use crate::lines::{enter, held, let_go, make_room, reserve_all};
+use crate::step::{Event, EventKind, Request, Status};
+use crate::work::Work;
+use pooma_queue::Queue;
+use std::alloc::{AllocError, Global};
+use std::marker::Model;
+use std::sync::Arc;
+
+// The entries of a machine, where each stands, and the queues of the objects.
+#[derive(Drop)]
+pub(crate) struct Table<W: Work> {
+    works: Vec<Arc<W>>,
+    statuses: Vec<Status>,
+    queues: Vec<Queue>,
+    history: Vec<Event>,
+    spare: u32,
+}
+
+impl<W: Work> Model for Table<W> {
+    ghost use Rattle.std.specs.Prelude.{◌<◌, ◌^◌, map, length, vec_capacity};
+    ghost use Rattle.std.specs.Arc.{arc_value};
+    ghost use Rattle.pooma_machine.specs.Values.{asks_of};
+    ghost use Rattle.pooma_machine.specs.Kept.{IsKept, HasRoom, Schedule};
+
+    ghost Value = { Schedule W };
+
+    ghost view = { λ t. record { plan = map arc_value t.works.items; history = t.history.items; objects = length t.queues.items; spare = t.spare } };
+
+    ghost invariant = { λ t. IsKept (asks_of W.meaning (map arc_value t.works.items)) t.history.items t.statuses.items t.queues.items × HasRoom (length t.works.items) (length t.history.items) t.statuses.items t.queues.items t.spare (vec_capacity t.works) (vec_capacity t.statuses) (vec_capacity t.history) × (length t.works.items < 2 ^ 32) };
+}
+
+// Why an entry can't be dispatched.
+#[derive(Clone, Copy)]
+pub(crate) enum Refusal {
+    Already(u32),
+    NotReady(u32, u32),
+}
+
+impl<W: Work> Table<W> {
+    ghost use Rattle.pooma_machine.specs.declared.step.EventKind.TheVariants as kind;
+    ghost use Rattle.pooma_machine.specs.Refusals.{Refuses};
+
+    // A table of no entries over so many objects.
+    pub(crate) fn new(alloc: Global, objects: usize) -> Result<Table<W>, AllocError>
+        requires { objects < 2 ^ 32 }
+        ensures empty { IfOk result (λ table. (table.plan ≡ []) × (table.history ≡ []) × (table.objects ≡ objects) × (table.spare ≡ 0)) }
+        ensures sound { IfOk result (λ table. IsSound (asks_of W.meaning table.plan) table.history) }
+    {
+        Ok(Table {
+            works: Vec::new(alloc),
+            statuses: Vec::new(alloc),
+            queues: empty_queues(alloc, objects)?,
+            history: Vec::new(alloc),
+            spare: 0,
+        })
+    }
+
+    // Makes room for so many further entries.
+    pub(crate) fn reserve(&mut self, entries: u32) -> Result<(), AllocError>
+        ensures ok { OnOk result (entries ≤ self.new.spare) }
+        ensures spare { self.old.spare ≤ self.new.spare }
+        ensures most { (self.new.spare ≡ self.old.spare) ⊎ (self.new.spare ≡ entries) }
+        ensures plan { self.new.plan ≡ self.old.plan }
+        ensures history { self.new.history ≡ self.old.history }
+        ensures objects { self.new.objects ≡ self.old.objects }
+    {
+        let n = entries as usize;
+        self.works.reserve(n)?;
+        self.statuses.reserve(n)?;
+        let events = 3 * (self.works.len() + n);
+        self.history.reserve(events - self.history.len())?;
+        reserve_all(&mut self.queues, n)?;
+        if self.spare < entries {
+            self.spare = entries;
+        }
+        Ok(())
+    }
+
+    // One more owner of the entry's work.
+    pub(crate) fn share_work(&self, j: u32) -> Result<Arc<W>, AllocError>
+        requires { j < length self.now.plan }
+        ensures { IfOk result (λ work. slice_get self.now.plan j ≡ Some (arc_value work)) }
+    {
+        Arc::try_clone(&self.works[j as usize])
+    }
+
+    // The work of the entry.
+    pub(crate) fn work(&self, j: u32) -> &W
+        requires { j < length self.now.plan }
+        ensures { slice_get self.now.plan j ≡ Some result.now }
+    {
+        &self.works[j as usize]
+    }
+
+    // How many entries were issued.
+    pub(crate) fn issued(&self) -> u32
+        ensures count { result ≡ length self.now.plan }
+        ensures ended { (j : ℕ) → length self.now.plan ≤ j → status_of self.now.history j ≡ None }
+    {
+        self.works.len() as u32
+    }
+
+    // What has happened.
+    pub(crate) fn history(&self) -> &[Event]
+        ensures { result.now ≡ self.now.history }
+    {
+        &self.history
+    }
+
+    // Where the entry stands.
+    pub(crate) fn status(&self, j: u32) -> Status
+        requires { j < length self.now.plan }
+        ensures { status_of self.now.history j ≡ Some result }
+    {
+        self.statuses[j as usize]
+    }
+
+    // Issues the next entry. Only want of memory refuses it, never while there is spare room; then all is as before, and the
+    // work is handed back.
+    pub(crate) fn request(&mut self, seat: u32, work: Arc<W>) -> Result<u32, Arc<W>>
+        requires objects { All (λ r. r.object < self.old.objects) (W.meaning.requests (arc_value work)) }
+        requires fewer { length self.old.plan + 1 < 2 ^ 32 }
+        ensures entry { IfOk result (λ entry. entry ≡ length self.old.plan) }
+        ensures plan { OnOk result (self.new.plan ≡ self.old.plan ++ arc_value work ∷ []) }
+        ensures history { OnOk result (self.new.history ≡ self.old.history ++ event_of kind.Request (length self.old.plan) seat ∷ []) }
+        ensures sound { OnOk result (IsSound (asks_of W.meaning self.new.plan) self.new.history) }
+        ensures objects { self.new.objects ≡ self.old.objects }
+        ensures spare { OnOk result (self.new.spare ≡ self.old.spare - 1) }
+        ensures succeeds { 0 < self.old.spare → IsOk result }
+        ensures err { OnErr result (self.new ≡ self.old) }
+        ensures given_back { IfErr result (λ given. arc_value given ≡ arc_value work) }
+    {
+        if room_for(&mut self.works, &mut self.statuses, &mut self.history).is_err() {
+            return Err(work);
+        }
+        if make_room(&mut self.queues, work.requests()).is_err() {
+            return Err(work);
+        }
+        let entry = self.works.len() as u32;
+        enter(&mut self.queues, entry, work.requests());
+        self.works.push_reserved(work);
+        self.statuses.push_reserved(Status::Waiting);
+        self.history.push_reserved(Event {
+            kind: EventKind::Request,
+            entry,
+            seat,
+        });
+        self.spare = self.spare.saturating_sub(1);
+        Ok(entry)
+    }
+
+    // The least entry that was not released. None exactly where each was.
+    pub(crate) fn least_unreleased(&self) -> Option<u32>
+        ensures { MatchOption result (IsComplete self.now.plan self.now.history) (IsLeastUnreleased (length self.now.plan) self.now.history) }
+    {
+        for j in 0..self.statuses.len() {
+            if !self.statuses[j].is_released() {
+                return Some(j as u32);
+            }
+        }
+        None
+    }
+
+    // The least entry not below `from` that may be dispatched. None exactly where there is none.
+    pub(crate) fn ready_from(&self, from: u32) -> Option<u32>
+        ensures { MatchOption result ((j : ℕ) → from ≤ j → IsReady (asks_of W.meaning self.now.plan) self.now.history j → ⊥) (IsLeastReady (asks_of W.meaning self.now.plan) self.now.history from) }
+    {
+        for j in from..self.issued() {
+            if self.check(j).is_ok() {
+                return Some(j);
+            }
+        }
+        None
+    }
+
+    // Whether the entry may be dispatched, and why not.
+    pub(crate) fn check(&self, j: u32) -> Result<(), Refusal>
+        requires { j < length self.now.plan }
+        ensures ready { OnOk result (IsReady (asks_of W.meaning self.now.plan) self.now.history j) }
+        ensures refused { IfErr result (Refuses (asks_of W.meaning self.now.plan) self.now.history j) }
+    {
+        match self.statuses[j as usize] {
+            Status::Out(seat) => Err(Refusal::Already(seat)),
+            Status::Released(seat) => Err(Refusal::Already(seat)),
+            Status::Waiting => match held(&self.queues, j, self.works[j as usize].requests()) {
+                Some(holder) => Err(Refusal::NotReady(holder.object, holder.by)),
+                None => Ok(()),
+            },
+        }
+    }
+
+    // Notes the dispatch of an entry that may be dispatched.
+    pub(crate) fn dispatch(&mut self, seat: u32, j: u32)
+        requires within { j < length self.old.plan }
+        requires ready { IsReady (asks_of W.meaning self.old.plan) self.old.history j }
+        ensures plan { self.new.plan ≡ self.old.plan }
+        ensures objects { self.new.objects ≡ self.old.objects }
+        ensures spare { self.new.spare ≡ self.old.spare }
+        ensures history { self.new.history ≡ self.old.history ++ event_of kind.Dispatch j seat ∷ [] }
+        ensures sound { IsSound (asks_of W.meaning self.new.plan) self.new.history }
+    {
+        self.statuses[j as usize] = Status::Out(seat);
+        self.history.push_reserved(Event {
+            kind: EventKind::Dispatch,
+            entry: j,
+            seat,
+        });
+    }
+
+    // Notes the release of an entry that is out.
+    pub(crate) fn release(&mut self, seat: u32, j: u32)
+        requires within { j < length self.old.plan }
+        requires out { IsTrue (is_out (status_of self.old.history j)) }
+        ensures plan { self.new.plan ≡ self.old.plan }
+        ensures objects { self.new.objects ≡ self.old.objects }
+        ensures spare { self.new.spare ≡ self.old.spare }
+        ensures history { self.new.history ≡ self.old.history ++ event_of kind.Release j seat ∷ [] }
+        ensures sound { IsSound (asks_of W.meaning self.new.plan) self.new.history }
+    {
+        let at = self.statuses[j as usize].seat();
+        let_go(&mut self.queues, j, self.works[j as usize].requests());
+        self.statuses[j as usize] = Status::Released(at);
+        self.history.push_reserved(Event {
+            kind: EventKind::Release,
+            entry: j,
+            seat,
+        });
+    }
+}
+
+// So many queues with no requests.
+fn empty_queues(alloc: Global, objects: usize) -> Result<Vec<Queue>, AllocError>
+    ensures count { IfOk result (λ queues. length queues.items ≡ objects) }
+    ensures empty { IfOk result (λ queues. All (λ queue. queue.requests ≡ []) queues.items) }
+{
+    let mut queues = Vec::new(alloc);
+    for _ in 0..objects {
+        queues.push(Queue::new(alloc))?;
+    }
+    Ok(queues)
+}
+
+// Makes room for one further entry and all its events.
+fn room_for<T>(
+    works: &mut Vec<T>,
+    statuses: &mut Vec<Status>,
+    history: &mut Vec<Event>,
+) -> Result<(), AllocError>
+    requires few { length works.old.items < 2 ^ 32 }
+    requires events { length history.old.items ≤ 3 * length works.old.items }
+    ensures works { works.new.items ≡ works.old.items }
+    ensures statuses { statuses.new.items ≡ statuses.old.items }
+    ensures history { history.new.items ≡ history.old.items }
+    ensures rooms { (vec_capacity works.old ≤ vec_capacity works.new) × (vec_capacity statuses.old ≤ vec_capacity statuses.new) × (vec_capacity history.old ≤ vec_capacity history.new) }
+    ensures ok { OnOk result ((vec_len works.old + 1 ≤ vec_capacity works.new) × (vec_len statuses.old + 1 ≤ vec_capacity statuses.new) × (3 * (vec_len works.old + 1) ≤ vec_capacity history.new)) }
+    ensures succeeds { vec_len works.old + 1 ≤ vec_capacity works.old → vec_len statuses.old + 1 ≤ vec_capacity statuses.old → 3 * (vec_len works.old + 1) ≤ vec_capacity history.old → IsOk result }
+{
+    works.reserve(1)?;
+    statuses.reserve(1)?;
+    let events = 3 * (works.len() + 1);
+    history.reserve(events - history.len())
+}
