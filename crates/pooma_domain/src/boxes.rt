@@ -297,6 +297,7 @@ impl BoxN {
     {
         self.dims == c.dims && self.x.holds(c.x) && self.y.holds(c.y) && self.z.holds(c.z)
     }
+
     /// The cell at this place of the box's order, counted from 0: the first coordinate changes
     /// fastest. `place_of` undoes it.
     pub fn cell_at(&self, k: u64) -> Cell

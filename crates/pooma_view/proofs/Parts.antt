@@ -175,6 +175,13 @@ within_three d x y z slots axes v e h k =
     let c = within_places z [] (left_over y (left_over x axes)) b.1 b.2 in
     record { by_x = a.0; by_y = b.0; by_z = c.0; whole = no_axes (left_over z (left_over y (left_over x axes))) c.1 }
 
+-- A box whose two corners are positions lies in the three slots, axis by axis.
+pub within_corners : (d : ℕ) (x y z : Slot) (slots : List Slot) (axes : List Interval) (least greatest : List ℤ) → IsPaddedView d x y z → take d (x ∷ y ∷ z ∷ []) ≡ slots → ((p : List ℤ) → IsIn axes p → IsIn (positions_of slots) p) → least ≡ map (λ (a : Interval). a.first) axes → IsIn axes least → greatest ≡ map (λ (a : Interval). a.last) axes → IsIn axes greatest → WithinThree x y z axes
+within_corners d x y z slots axes least greatest v e inside el hl eg hg =
+    within_three d x y z slots axes v e
+    (subst (IsIn (positions_of slots)) el (inside least hl))
+    (subst (IsIn (positions_of slots)) eg (inside greatest hg))
+
 pub restricted_view : (d : ℕ) (x y z x' y' z' : Slot) (axes : List Interval) → IsPaddedView d x y z → WithinThree x y z axes → IsRestricted x x' axes → IsRestricted y y' (left_over x axes) → IsRestricted z z' (left_over y (left_over x axes)) → IsPaddedView d x' y' z'
 restricted_view d x y z x' y' z' axes v w rx ry rz = record {
   some = v.some;

@@ -148,6 +148,7 @@ impl View {
         ensures cells { (p : List ℤ) → IsIn (from_zero b.now) p
             → cell_named result.slots p ≡ cell_named self.now.slots (moved p (map (λ axis. axis.first) b.now)) }
     {
+        // For what they promise: both corners lie in the box, so they are positions of this view.
         let _least = b.least();
         let _greatest = b.greatest();
         let after_x = self.x.later_places(b);

@@ -1,7 +1,7 @@
 -- The positions of both views are the places of one axis.
 use Rattle.std.proofs.Common.{arith}
 use Rattle.std.proofs.lemmas.Int.{ints}
-use Rattle.pooma_domain.specs.Cells.{IsAxis, IsBox}
+use Rattle.pooma_domain.specs.Cells.{IsAxis}
 use Rattle.pooma_domain.proofs.PaddedBox.{box_of_one}
 use Rattle.pooma_view.specs.Slots.{places}
 use Rattle.pooma_view.proofs.tests.column_overlaps_row.Goals as goal

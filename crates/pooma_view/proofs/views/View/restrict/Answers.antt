@@ -1,40 +1,28 @@
 use Rattle.std.proofs.Common.{ap, subst, ◌≡◌, ◌∙◌, List}
-use Rattle.pooma_domain.specs.Cells.{Interval, IsIn}
-use Rattle.pooma_view.specs.Slots.{positions_of, left_over, IsRestricted}
+use Rattle.pooma_domain.specs.Cells.{Interval}
+use Rattle.pooma_view.specs.Slots.{left_over, IsRestricted}
 use Rattle.pooma_view.specs.Views.{Viewed}
-use Rattle.pooma_view.proofs.Parts.{WithinThree, within_three, restricted_view, restricted_positions, restricted_cells}
+use Rattle.pooma_view.proofs.Parts.{WithinThree, within_corners, restricted_view, restricted_positions, restricted_cells}
 use Rattle.pooma_view.proofs.views.View.restrict.Goals as goal
 
 pub later_places-after_x-requires : goal.later_places-after_x-requires
-later_places-after_x-requires c = (within_three _ _ _ _ _ c.args.b.now c.self.invariant (ap (λ (v : Viewed). v.slots) c.self.view_is)
-    (subst (IsIn (positions_of c.args.self.now.slots)) c.least-least.ensures.value (c.requires c.least-least.result c.least-least.ensures.inside))
-    (subst (IsIn (positions_of c.args.self.now.slots)) c.greatest-greatest.ensures.value (c.requires c.greatest-greatest.result c.greatest-greatest.ensures.inside))).by_x
+later_places-after_x-requires c = (within_corners _ _ _ _ _ _ _ _ c.self.invariant (ap (λ (v : Viewed). v.slots) c.self.view_is) c.requires c.least-least.ensures.value c.least-least.ensures.inside c.greatest-greatest.ensures.value c.greatest-greatest.ensures.inside).by_x
 
 pub later_places-after_y-requires : goal.later_places-after_y-requires
-later_places-after_y-requires c = rw c.later_places-after_x.ensures (within_three _ _ _ _ _ c.args.b.now c.self.invariant (ap (λ (v : Viewed). v.slots) c.self.view_is)
-    (subst (IsIn (positions_of c.args.self.now.slots)) c.least-least.ensures.value (c.requires c.least-least.result c.least-least.ensures.inside))
-    (subst (IsIn (positions_of c.args.self.now.slots)) c.greatest-greatest.ensures.value (c.requires c.greatest-greatest.result c.greatest-greatest.ensures.inside))).by_y
+later_places-after_y-requires c = rw c.later_places-after_x.ensures (within_corners _ _ _ _ _ _ _ _ c.self.invariant (ap (λ (v : Viewed). v.slots) c.self.view_is) c.requires c.least-least.ensures.value c.least-least.ensures.inside c.greatest-greatest.ensures.value c.greatest-greatest.ensures.inside).by_y
 
 pub restrict-requires : goal.restrict-requires
-restrict-requires c = (within_three _ _ _ _ _ c.args.b.now c.self.invariant (ap (λ (v : Viewed). v.slots) c.self.view_is)
-    (subst (IsIn (positions_of c.args.self.now.slots)) c.least-least.ensures.value (c.requires c.least-least.result c.least-least.ensures.inside))
-    (subst (IsIn (positions_of c.args.self.now.slots)) c.greatest-greatest.ensures.value (c.requires c.greatest-greatest.result c.greatest-greatest.ensures.inside))).by_x
+restrict-requires c = (within_corners _ _ _ _ _ _ _ _ c.self.invariant (ap (λ (v : Viewed). v.slots) c.self.view_is) c.requires c.least-least.ensures.value c.least-least.ensures.inside c.greatest-greatest.ensures.value c.greatest-greatest.ensures.inside).by_x
 
 pub restrict-requires-2 : goal.restrict-requires-2
-restrict-requires-2 c = rw c.later_places-after_x.ensures (within_three _ _ _ _ _ c.args.b.now c.self.invariant (ap (λ (v : Viewed). v.slots) c.self.view_is)
-    (subst (IsIn (positions_of c.args.self.now.slots)) c.least-least.ensures.value (c.requires c.least-least.result c.least-least.ensures.inside))
-    (subst (IsIn (positions_of c.args.self.now.slots)) c.greatest-greatest.ensures.value (c.requires c.greatest-greatest.result c.greatest-greatest.ensures.inside))).by_y
+restrict-requires-2 c = rw c.later_places-after_x.ensures (within_corners _ _ _ _ _ _ _ _ c.self.invariant (ap (λ (v : Viewed). v.slots) c.self.view_is) c.requires c.least-least.ensures.value c.least-least.ensures.inside c.greatest-greatest.ensures.value c.greatest-greatest.ensures.inside).by_y
 
 pub restrict-requires-3 : goal.restrict-requires-3
-restrict-requires-3 c = rw (c.later_places-after_y.ensures, c.later_places-after_x.ensures) (within_three _ _ _ _ _ c.args.b.now c.self.invariant (ap (λ (v : Viewed). v.slots) c.self.view_is)
-    (subst (IsIn (positions_of c.args.self.now.slots)) c.least-least.ensures.value (c.requires c.least-least.result c.least-least.ensures.inside))
-    (subst (IsIn (positions_of c.args.self.now.slots)) c.greatest-greatest.ensures.value (c.requires c.greatest-greatest.result c.greatest-greatest.ensures.inside))).by_z
+restrict-requires-3 c = rw (c.later_places-after_y.ensures, c.later_places-after_x.ensures) (within_corners _ _ _ _ _ _ _ _ c.self.invariant (ap (λ (v : Viewed). v.slots) c.self.view_is) c.requires c.least-least.ensures.value c.least-least.ensures.inside c.greatest-greatest.ensures.value c.greatest-greatest.ensures.inside).by_z
 
 pub invariant_of-result : goal.invariant_of-result
 invariant_of-result c =
-    let within : WithinThree c.self.inside.x c.self.inside.y c.self.inside.z c.args.b.now = (within_three _ _ _ _ _ c.args.b.now c.self.invariant (ap (λ (v : Viewed). v.slots) c.self.view_is)
-    (subst (IsIn (positions_of c.args.self.now.slots)) c.least-least.ensures.value (c.requires c.least-least.result c.least-least.ensures.inside))
-    (subst (IsIn (positions_of c.args.self.now.slots)) c.greatest-greatest.ensures.value (c.requires c.greatest-greatest.result c.greatest-greatest.ensures.inside))) in
+    let within : WithinThree c.self.inside.x c.self.inside.y c.self.inside.z c.args.b.now = (within_corners _ _ _ _ _ _ _ _ c.self.invariant (ap (λ (v : Viewed). v.slots) c.self.view_is) c.requires c.least-least.ensures.value c.least-least.ensures.inside c.greatest-greatest.ensures.value c.greatest-greatest.ensures.inside) in
     let on_y : IsRestricted c.self.inside.y c.restrict-2.result (left_over c.self.inside.x c.args.b.now) =
     subst (λ (b : List Interval). IsRestricted c.self.inside.y c.restrict-2.result b) c.later_places-after_x.ensures c.restrict-2.ensures in
     let left : c.later_places-after_y.result ≡ left_over c.self.inside.y (left_over c.self.inside.x c.args.b.now) =
@@ -45,9 +33,7 @@ invariant_of-result c =
 
 pub returns-clause-positions : goal.returns-clause-positions
 returns-clause-positions c =
-    let within : WithinThree c.self.inside.x c.self.inside.y c.self.inside.z c.args.b.now = (within_three _ _ _ _ _ c.args.b.now c.self.invariant (ap (λ (v : Viewed). v.slots) c.self.view_is)
-    (subst (IsIn (positions_of c.args.self.now.slots)) c.least-least.ensures.value (c.requires c.least-least.result c.least-least.ensures.inside))
-    (subst (IsIn (positions_of c.args.self.now.slots)) c.greatest-greatest.ensures.value (c.requires c.greatest-greatest.result c.greatest-greatest.ensures.inside))) in
+    let within : WithinThree c.self.inside.x c.self.inside.y c.self.inside.z c.args.b.now = (within_corners _ _ _ _ _ _ _ _ c.self.invariant (ap (λ (v : Viewed). v.slots) c.self.view_is) c.requires c.least-least.ensures.value c.least-least.ensures.inside c.greatest-greatest.ensures.value c.greatest-greatest.ensures.inside) in
     let on_y : IsRestricted c.self.inside.y c.restrict-2.result (left_over c.self.inside.x c.args.b.now) =
     subst (λ (b : List Interval). IsRestricted c.self.inside.y c.restrict-2.result b) c.later_places-after_x.ensures c.restrict-2.ensures in
     let left : c.later_places-after_y.result ≡ left_over c.self.inside.y (left_over c.self.inside.x c.args.b.now) =
@@ -58,9 +44,7 @@ returns-clause-positions c =
 
 pub returns-clause-cells : goal.returns-clause-cells
 returns-clause-cells c p q =
-    let within : WithinThree c.self.inside.x c.self.inside.y c.self.inside.z c.args.b.now = (within_three _ _ _ _ _ c.args.b.now c.self.invariant (ap (λ (v : Viewed). v.slots) c.self.view_is)
-    (subst (IsIn (positions_of c.args.self.now.slots)) c.least-least.ensures.value (c.requires c.least-least.result c.least-least.ensures.inside))
-    (subst (IsIn (positions_of c.args.self.now.slots)) c.greatest-greatest.ensures.value (c.requires c.greatest-greatest.result c.greatest-greatest.ensures.inside))) in
+    let within : WithinThree c.self.inside.x c.self.inside.y c.self.inside.z c.args.b.now = (within_corners _ _ _ _ _ _ _ _ c.self.invariant (ap (λ (v : Viewed). v.slots) c.self.view_is) c.requires c.least-least.ensures.value c.least-least.ensures.inside c.greatest-greatest.ensures.value c.greatest-greatest.ensures.inside) in
     let on_y : IsRestricted c.self.inside.y c.restrict-2.result (left_over c.self.inside.x c.args.b.now) =
     subst (λ (b : List Interval). IsRestricted c.self.inside.y c.restrict-2.result b) c.later_places-after_x.ensures c.restrict-2.ensures in
     let left : c.later_places-after_y.result ≡ left_over c.self.inside.y (left_over c.self.inside.x c.args.b.now) =
