@@ -1,5 +1,6 @@
 -- The requests of one object in the order in which they came, and which of them still hold a later one back.
-use Rattle.std.specs.Prelude.{◌≡◌, ◌<◌, ℕ, Bool, true, false, not, ◌&&◌, List, take, slice_get, Option, None, find, option_and_then, nat_lt, ◌==◌, if◌then◌else◌, AllPairs}
+use Rattle.std.specs.Prelude.{◌≡◌, ◌<◌, ◌+◌, ℕ, Bool, true, false, not, ◌&&◌, List, take, drop, slice_get, Option, None, find, option_and_then, nat_lt, ◌==◌, if◌then◌else◌, AllPairs}
+use Rattle.std.specs.List.{prefix_len, position_or_len}
 use Rattle.pooma_queue.specs.declared.queue.Mode.{Mode}
 use Rattle.pooma_queue.specs.declared.queue.Mode.TheVariants.{Read, Write}
 use Rattle.pooma_queue.specs.declared.queue.Asked.{Asked}
@@ -43,3 +44,11 @@ holder_of requests entry mode = find (λ earlier. nat_lt earlier.entry entry && 
 -- the request, released if it is this entry's
 abbrev pub let_go : ℕ → Asked → Asked
 let_go entry asked = if asked.entry == entry then released asked else asked
+
+-- the requests from the first one on that was not released
+abbrev pub open_part : List Asked → List Asked
+open_part requests = drop (prefix_len (λ asked. asked.released) requests) requests
+
+-- of these, the ones up to the first open request to write, with it: each later one is held back by it
+abbrev pub front_of : List Asked → List Asked
+front_of requests = take (position_or_len (holds_back Read) (open_part requests) + 1) (open_part requests)

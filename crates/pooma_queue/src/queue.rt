@@ -1,6 +1,7 @@
-ghost use Rattle.pooma_queue.specs.Requests.{holds_back, holder_of};
+ghost use Rattle.std.specs.List.{position, position_or_len, take_while};
+ghost use Rattle.pooma_queue.specs.Requests.{holds_back, IsInOrder};
 ghost use Rattle.pooma_queue.specs.declared.queue.Asked.{Asked};
-ghost use Rattle.std.specs.Prelude.{◌≡◌, ◌↔◌, ◌+◌, ◌<◌, ◌≤◌, ◌≢◌, ℕ, List, [], ◌∷◌, ◌++◌, false, length, map, slice_index_or, take, find, All, Some, true, IsTrue, IsOk, IfOk, OnOk, OnErr, IfSome, IsNone, slice_get, slice_set, option_map, vec_len, vec_capacity};
+ghost use Rattle.std.specs.Prelude.{◌≡◌, ◌↔◌, ◌+◌, ◌<◌, ◌≤◌, ◌≢◌, ℕ, List, [], ◌∷◌, ◌++◌, false, nat_lt, length, map, slice_index_or, take, find, All, Some, true, IsTrue, IsOk, IfOk, OnOk, OnErr, IfSome, IsNone, slice_get, slice_set, option_map, vec_len, vec_capacity};
 
 use std::alloc::{AllocError, Global};
 use std::marker::Model;
@@ -13,6 +14,17 @@ pub enum Mode {
     Read,
     /// To give it a new value, alone.
     Write,
+}
+
+impl Mode {
+    ghost use Rattle.pooma_queue.specs.Requests.{conflicts};
+
+    /// Whether requests of one object in these two modes conflict: at least one of them is to write.
+    pub fn conflicts(self, other: Mode) -> bool
+        ensures { result ≡ conflicts self other }
+    {
+        self == Mode::Write || other == Mode::Write
+    }
 }
 
 /// One request of an object.
@@ -33,7 +45,7 @@ impl Asked {
     fn holds_back(&self, mode: Mode) -> bool
         ensures { result ≡ holds_back mode self.now }
     {
-        !self.released && (self.mode == Mode::Write || mode == Mode::Write)
+        !self.released && self.mode.conflicts(mode)
     }
 }
 
@@ -43,23 +55,24 @@ impl Asked {
 #[derive(Drop)]
 pub struct Queue {
     requests: Vec<Asked>,
-    // Each request before this place was released, so that no call walks over it again.
+    // The first place whose request was not released, so that no call walks over those before it again.
     first: usize,
 }
 
 impl Model for Queue {
-    ghost use Rattle.std.specs.Prelude.{◌≡◌, ◌-◌, ◌≤◌, true, take, All, length, vec_len, vec_capacity};
+    ghost use Rattle.std.specs.Prelude.{◌≡◌, ◌-◌, ◌<◌, ◌≤◌, true, false, take, All, length, slice_index_or, vec_len, vec_capacity};
+    ghost use Rattle.pooma_queue.specs.declared.queue.Asked.{Asked};
     ghost use Rattle.pooma_queue.specs.Requests.{Waiting, IsInOrder};
 
     ghost Value = { Waiting };
 
     ghost view = { λ q. record { requests = q.requests.items; room = vec_capacity q.requests - vec_len q.requests } };
 
-    ghost invariant = { λ q. IsInOrder q.requests.items × (q.first ≤ length q.requests.items) × All (λ asked. asked.released ≡ true) (take q.first q.requests.items) };
+    ghost invariant = { λ q. IsInOrder q.requests.items × (q.first ≤ length q.requests.items) × All (λ asked. asked.released ≡ true) (take q.first q.requests.items) × ((d : Asked) → q.first < length q.requests.items → (slice_index_or q.requests.items q.first d).released ≡ false) };
 }
 
 impl Queue {
-    ghost use Rattle.pooma_queue.specs.Requests.{IsInOrder, IsGranted, blocker_of, holder_of, holds_back, let_go, released};
+    ghost use Rattle.pooma_queue.specs.Requests.{IsInOrder, IsGranted, blocker_of, front_of, holder_of, holds_back, let_go, released};
 
     /// A queue with no requests. It takes no memory.
     pub fn new(alloc: Global) -> Queue
@@ -147,7 +160,15 @@ impl Queue {
     pub fn holder(&self, entry: u32, mode: Mode) -> Option<u32>
         ensures { result ≡ option_map (λ asked. asked.entry) (holder_of self.now.requests entry mode) }
     {
-        first_holder(&self.requests[self.first..], entry, mode)
+        first_held(earlier_than(&self.requests[self.first..], entry), mode)
+    }
+
+    /// The requests from the first open one, which was not released, up to the first open one that is to write. What may go
+    /// on is among them, since that one holds back each that comes behind it.
+    pub fn front(&self) -> &[Asked]
+        ensures { result.now ≡ front_of self.now.requests }
+    {
+        up_to_open_write(&self.requests[self.first..])
     }
 
     /// Marks the request of this entry as released, if there is one.
@@ -185,14 +206,31 @@ fn first_held(earlier: &[Asked], mode: Mode) -> Option<u32>
         .map(|asked| asked.entry)
 }
 
-// The entry of the first request before `entry` that holds back one of this mode.
-fn first_holder(requests: &[Asked], entry: u32, mode: Mode) -> Option<u32>
-    ensures { result ≡ option_map (λ asked. asked.entry) (holder_of requests.now entry mode) }
+// The requests of the entries before this one.
+fn earlier_than(requests: &[Asked], entry: u32) -> &[Asked]
+    requires { IsInOrder requests.now }
+    ensures { result.now ≡ take_while (λ asked. nat_lt asked.entry entry) requests.now }
+{
+    &requests[..requests.partition_point(|asked| asked.entry < entry)]
+}
+
+// The requests up to the first open one that is to write, with it.
+fn up_to_open_write(requests: &[Asked]) -> &[Asked]
+    ensures { result.now ≡ take (position_or_len (holds_back Mode.Read) requests.now + 1) requests.now }
+{
+    match open_write(requests) {
+        Some(last) => &requests[..last + 1],
+        None => requests,
+    }
+}
+
+// The place of the first open request that is to write.
+fn open_write(requests: &[Asked]) -> Option<usize>
+    ensures { result ≡ position (holds_back Mode.Read) requests.now }
 {
     requests
         .iter()
-        .find(|asked| asked.entry < entry && asked.holds_back(mode))
-        .map(|asked| asked.entry)
+        .position(|asked| asked.holds_back(Mode::Read))
 }
 
 // The first place not below `from` with the request of this entry, or the end where there is none.
@@ -215,6 +253,7 @@ fn first_open(requests: &[Asked], from: usize) -> usize
     requires before { All (λ asked. asked.released ≡ true) (take from requests.now) }
     ensures within { result ≤ length requests.now }
     ensures before { All (λ asked. asked.released ≡ true) (take result requests.now) }
+    ensures here { (d : Asked) → result < length requests.now → (slice_index_or requests.now result d).released ≡ false }
 {
     let mut first = from;
     while first < requests.len() && requests[first].released {
@@ -236,6 +275,21 @@ mod tests {
         assert_eq!(rt; queue.push(1, Mode::Read)?, 1);
         assert!(rt; queue.granted(0));
         assert_eq!(rt; queue.blocker(1), Some(0));
+        Ok(())
+    }
+
+    #[test]
+    fn the_front_ends_with_the_first_open_write(rt: HostRuntime) -> Result<(), Fail> {
+        let mut queue = Queue::new(rt.alloc());
+        queue.push(0, Mode::Write)?;
+        queue.push(1, Mode::Read)?;
+        queue.push(2, Mode::Read)?;
+        queue.push(3, Mode::Write)?;
+        queue.push(4, Mode::Read)?;
+        assert_eq!(rt; queue.front().len(), 1);
+        queue.release_entry(0);
+        assert_eq!(rt; queue.front().len(), 3);
+        assert_eq!(rt; queue.front().first().map(|asked| asked.entry), Some(1));
         Ok(())
     }
 }
