@@ -8,3 +8,6 @@ pub mod Worth
 pub mod Lending
 pub mod Dispatching
 pub mod Ends
+pub mod Named
+pub mod Waking
+pub mod Firsts

@@ -1,5 +1,6 @@
 -- What a machine's parts have to do with one another between its calls.
-use Rattle.std.specs.Prelude.{◌≡◌, ◌⊎◌, ◌+◌, ◌*◌, ◌<◌, ◌≤◌, ℕ, List, length, slice_get, All, sum_by, None}
+use Rattle.std.specs.Prelude.{◌≡◌, ◌⊎◌, ◌+◌, ◌*◌, ◌<◌, ◌≤◌, ℕ, List, length, slice_get, All, sum_by, not, None, Some}
+use Rattle.std.specs.List.{position_or_len}
 use Rattle.pooma_queue.specs.Requests.{Waiting}
 use Rattle.pooma_machine.specs.declared.step.Request.{Request}
 use Rattle.pooma_machine.specs.declared.step.Event.{Event}
@@ -25,6 +26,10 @@ pub record IsSound (plan : List (List Request)) (history : List Event) : Type 0 
   pub ended : (j : ℕ) → length plan ≤ j → status_of history j ≡ None
   pub passed : (j : ℕ) → j < length plan → IsWaiting history j ⊎ NothingBlocks plan history j
   pub form : All IsRequestList plan
+
+-- the place of the first status that isn't released; the number of statuses where there is none
+abbrev pub first_open : List Status → ℕ
+first_open statuses = position_or_len (λ s. not (is_released (Some s))) statuses
 
 -- how many further events an entry of this status will have
 abbrev pub owed : Status → ℕ

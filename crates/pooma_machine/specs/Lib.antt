@@ -1,4 +1,5 @@
 pub mod Steps
+pub mod Became
 pub mod Values
 pub mod Behind
 pub mod Lines

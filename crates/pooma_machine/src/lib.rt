@@ -2,12 +2,14 @@
 //! values back. It has no threads.
 #![tactic(auto)]
 
+pub use became::Became;
 pub use journal::{Entry, Journal, ListJournal, NoJournal, RequestList};
 pub use loan::{Done, Loan};
 pub use machine::{DispatchError, Machine};
 pub use step::{Event, EventKind, Request, Status};
 pub use work::Work;
 
+mod became;
 mod journal;
 mod lines;
 mod loan;

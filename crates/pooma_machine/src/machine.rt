@@ -1,11 +1,13 @@
 ghost use Rattle.std.specs.Option.{ForSome};
 ghost use Rattle.pooma_machine.specs.declared.slot.Slot.{Slot};
-ghost use Rattle.std.specs.Prelude.{◌≡◌, ◌↔◌, ◌+◌, ◌-◌, ◌^◌, ◌<◌, ◌≤◌, ℕ, List, [], ◌∷◌, ◌++◌, Some, None, Ok, Err, slice_get, All, IfOk, OnOk, OnErr, IfErr, IsOk, IsTrue, MatchOption, IsOkUnless, IsSome, is_some, length, map, filter_map, option_map, option_and_then, option_copied, vec_len, vec_capacity};
+ghost use Rattle.std.specs.Prelude.{◌≡◌, ◌↔◌, ◌+◌, ◌-◌, ◌^◌, ◌<◌, ◌≤◌, ℕ, List, [], ◌∷◌, ◌++◌, Some, None, Ok, Err, slice_get, All, IfOk, OnOk, OnErr, IfErr, IsOk, IsTrue, IfSome, MatchOption, IsOkUnless, IsSome, is_some, length, map, filter_map, option_map, option_and_then, option_copied, vec_len, vec_capacity};
 ghost use Rattle.std.specs.Arc.{arc_value};
 ghost use Rattle.pooma_machine.specs.Steps.{NoneOut, IsLeastUnreleased, IsLeastReady, IsReady, IsHeldBack, IsDispatchedAt, IsLegal, is_out, is_released, status_of, event_of};
 ghost use Rattle.pooma_machine.specs.Values.{asks_of, values, read_objects, written_object, is_write, IsComplete};
 ghost use Rattle.pooma_machine.specs.Slots.{value_at, value_in, PutBack};
+ghost use Rattle.pooma_machine.specs.Became.{TellsReady};
 
+use crate::became::Became;
 use crate::loan::{Done, Loan};
 use crate::slot::{Slot, share, take};
 use crate::step::{Event, Request};
@@ -157,6 +159,9 @@ impl<W: Work> Machine<W> {
         ensures already { (at : ℕ) → IsDispatchedAt self.old.history j at → result ≡ Err (DispatchError.Already at) }
         ensures not_ready { (object by : ℕ) → IsHeldBack (asks_of W.meaning self.old.plan) self.old.history j object by → result ≡ Err (DispatchError.NotReady object by) }
 
+        // An entry that may be dispatched is, unless memory is short.
+        ensures succeeds { IsReady (asks_of W.meaning self.old.plan) self.old.history j → IsOkUnless result DispatchError.OutOfMemory }
+
         // Where none is out, nothing holds the least unreleased entry back.
         ensures progress { NoneOut self.old.history → IsLeastUnreleased (length self.old.plan) self.old.history j → IsOkUnless result DispatchError.OutOfMemory }
 
@@ -197,8 +202,8 @@ impl<W: Work> Machine<W> {
     }
 
     /// Takes back what this machine lent to an entry that is out: the object that its work writes has the new value, and the
-    /// outcome is kept. It takes no memory, and can't be refused.
-    pub fn release(&mut self, seat: u32, done: Done<W>)
+    /// outcome is kept. It answers which entries became ready by it. It takes no memory, and can't be refused.
+    pub fn release(&mut self, seat: u32, done: Done<W>) -> Became
         requires within { done.entry < length self.old.plan }
         requires out { IsTrue (is_out (status_of self.old.history done.entry)) }
         requires work { slice_get self.old.plan done.entry ≡ Some done.work }
@@ -207,12 +212,14 @@ impl<W: Work> Machine<W> {
         ensures plan { self.new.plan ≡ self.old.plan }
         ensures opening { self.new.opening ≡ self.old.opening }
         ensures spare { self.new.spare ≡ self.old.spare }
+        ensures became { TellsReady (asks_of W.meaning self.old.plan) self.old.history self.new.history result }
     {
         let j = done.entry();
         let (work, value, outcome) = done.kept();
-        self.table.release(seat, j);
+        let became = self.table.release(seat, j);
         give_back(&mut self.slots, written(work.requests()), value);
         self.outcomes[j as usize] = Some(outcome);
+        became
     }
 
     /// What has happened so far. It is legal.
@@ -239,7 +246,8 @@ impl<W: Work> Machine<W> {
 
     /// The least entry not below `from` that is waiting and that no earlier entry holds back. None exactly where there is none.
     pub fn ready_from(&self, from: u32) -> Option<u32>
-        ensures { MatchOption result ((j : ℕ) → from ≤ j → IsReady (asks_of W.meaning self.now.plan) self.now.history j → ⊥) (IsLeastReady (asks_of W.meaning self.now.plan) self.now.history from) }
+        ensures there { IfSome result (λ j. j < length self.now.plan) }
+        ensures least { MatchOption result ((j : ℕ) → from ≤ j → IsReady (asks_of W.meaning self.now.plan) self.now.history j → ⊥) (IsLeastReady (asks_of W.meaning self.now.plan) self.now.history from) }
     {
         self.table.ready_from(from)
     }

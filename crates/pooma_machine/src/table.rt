@@ -1,13 +1,15 @@
-ghost use Rattle.std.specs.Prelude.{◌≡◌, ◌↔◌, ◌⊎◌, ◌+◌, ◌-◌, ◌*◌, ◌^◌, ◌<◌, ◌≤◌, ℕ, [], ◌∷◌, ◌++◌, Some, None, slice_get, All, IfOk, OnOk, OnErr, IsOk, IfErr, IsTrue, MatchOption, length, vec_len, vec_capacity};
+ghost use Rattle.std.specs.Prelude.{◌≡◌, ◌↔◌, ◌⊎◌, ◌+◌, ◌-◌, ◌*◌, ◌^◌, ◌<◌, ◌≤◌, ℕ, List, [], ◌∷◌, ◌++◌, Some, None, slice_get, All, IfOk, OnOk, OnErr, IsOk, IfErr, IsTrue, IfSome, MatchOption, length, vec_len, vec_capacity};
 ghost use Rattle.std.specs.Arc.{arc_value};
-ghost use Rattle.pooma_machine.specs.Steps.{IsLeastUnreleased, IsLeastReady, IsReady, IsHeldBack, IsDispatchedAt, IsLegal, is_out, status_of, event_of};
+ghost use Rattle.pooma_machine.specs.Steps.{IsLeastUnreleased, IsLeastReady, IsReady, IsHeldBack, IsDispatchedAt, IsLegal, AsksFor, is_out, status_of, event_of};
 ghost use Rattle.pooma_machine.specs.Values.{asks_of, IsComplete};
-ghost use Rattle.pooma_machine.specs.Kept.{IsSound, Schedule};
+ghost use Rattle.pooma_machine.specs.Kept.{IsSound, Schedule, first_open};
+ghost use Rattle.pooma_machine.specs.Became.{IsListOf, IsFreed, IsFreedBy, IsFreedOver, Names, Notes, TellsReady};
 
+use crate::became::Became;
 use crate::lines::{enter, held, let_go, make_room, reserve_all};
 use crate::step::{Event, EventKind, Request, Status};
 use crate::work::Work;
-use pooma_queue::Queue;
+use pooma_queue::{Asked, Mode, Queue};
 use std::alloc::{AllocError, Global};
 use std::marker::Model;
 use std::sync::Arc;
@@ -19,20 +21,22 @@ pub(crate) struct Table<W: Work> {
     statuses: Vec<Status>,
     queues: Vec<Queue>,
     history: Vec<Event>,
+    // The least entry that was not released, so that no call walks over those before it.
+    first: usize,
     spare: u32,
 }
 
 impl<W: Work> Model for Table<W> {
-    ghost use Rattle.std.specs.Prelude.{◌<◌, ◌^◌, map, length, vec_capacity};
+    ghost use Rattle.std.specs.Prelude.{◌≡◌, ◌<◌, ◌^◌, map, length, vec_capacity};
     ghost use Rattle.std.specs.Arc.{arc_value};
     ghost use Rattle.pooma_machine.specs.Values.{asks_of};
-    ghost use Rattle.pooma_machine.specs.Kept.{IsKept, HasRoom, Schedule};
+    ghost use Rattle.pooma_machine.specs.Kept.{IsKept, HasRoom, Schedule, first_open};
 
     ghost Value = { Schedule W };
 
     ghost view = { λ t. record { plan = map arc_value t.works.items; history = t.history.items; objects = length t.queues.items; spare = t.spare } };
 
-    ghost invariant = { λ t. IsKept (asks_of W.meaning (map arc_value t.works.items)) t.history.items t.statuses.items t.queues.items × HasRoom (length t.works.items) (length t.history.items) t.statuses.items t.queues.items t.spare (vec_capacity t.works) (vec_capacity t.statuses) (vec_capacity t.history) × (length t.works.items < 2 ^ 32) };
+    ghost invariant = { λ t. IsKept (asks_of W.meaning (map arc_value t.works.items)) t.history.items t.statuses.items t.queues.items × HasRoom (length t.works.items) (length t.history.items) t.statuses.items t.queues.items t.spare (vec_capacity t.works) (vec_capacity t.statuses) (vec_capacity t.history) × (length t.works.items < 2 ^ 32) × (t.first ≡ first_open t.statuses.items) };
 }
 
 // Why an entry can't be dispatched.
@@ -57,6 +61,7 @@ impl<W: Work> Table<W> {
             statuses: Vec::new(alloc),
             queues: empty_queues(alloc, objects)?,
             history: Vec::new(alloc),
+            first: 0,
             spare: 0,
         })
     }
@@ -159,19 +164,21 @@ impl<W: Work> Table<W> {
     pub(crate) fn least_unreleased(&self) -> Option<u32>
         ensures { MatchOption result (IsComplete self.now.plan self.now.history) (IsLeastUnreleased (length self.now.plan) self.now.history) }
     {
-        for j in 0..self.statuses.len() {
-            if !self.statuses[j].is_released() {
-                return Some(j as u32);
-            }
+        if self.first < self.statuses.len() {
+            Some(self.first as u32)
+        } else {
+            None
         }
-        None
     }
 
     // The least entry not below `from` that may be dispatched. None exactly where there is none.
     pub(crate) fn ready_from(&self, from: u32) -> Option<u32>
-        ensures { MatchOption result ((j : ℕ) → from ≤ j → IsReady (asks_of W.meaning self.now.plan) self.now.history j → ⊥) (IsLeastReady (asks_of W.meaning self.now.plan) self.now.history from) }
+        ensures there { IfSome result (λ j. j < length self.now.plan) }
+        ensures least { MatchOption result ((j : ℕ) → from ≤ j → IsReady (asks_of W.meaning self.now.plan) self.now.history j → ⊥) (IsLeastReady (asks_of W.meaning self.now.plan) self.now.history from) }
     {
-        for j in from..self.issued() {
+        let entries = self.issued();
+        let first = self.least_unreleased()?;
+        for j in from.max(first)..entries {
             if self.check(j).is_ok() {
                 return Some(j);
             }
@@ -213,8 +220,55 @@ impl<W: Work> Table<W> {
         });
     }
 
-    // Notes the release of an entry that is out.
-    pub(crate) fn release(&mut self, seat: u32, j: u32)
+    // Notes the release of an entry that is out, and tells which entries became ready by it.
+    pub(crate) fn release(&mut self, seat: u32, j: u32) -> Became
+        requires within { j < length self.old.plan }
+        requires out { IsTrue (is_out (status_of self.old.history j)) }
+        ensures plan { self.new.plan ≡ self.old.plan }
+        ensures objects { self.new.objects ≡ self.old.objects }
+        ensures spare { self.new.spare ≡ self.old.spare }
+        ensures history { self.new.history ≡ self.old.history ++ event_of kind.Release j seat ∷ [] }
+        ensures sound { IsSound (asks_of W.meaning self.new.plan) self.new.history }
+        ensures became { TellsReady (asks_of W.meaning self.old.plan) self.old.history self.new.history result }
+    {
+        self.mark_released(seat, j);
+        self.woken(j)
+    }
+
+    // The entries that may be dispatched now and that this one, which was released, conflicted with.
+    fn woken(&self, j: u32) -> Became
+        requires { j < length self.now.plan }
+        ensures { (whole : List ℕ) × IsListOf (IsFreedBy (asks_of W.meaning self.now.plan) self.now.history j) whole × Names result whole }
+    {
+        let mut became = Became::none();
+        for request in self.works[j as usize].requests() {
+            self.wake(j, *request, &mut became);
+        }
+        became
+    }
+
+    // Notes those with which it conflicted over the object of this request of it.
+    fn wake(&self, j: u32, request: Request, became: &mut Became)
+        requires { AsksFor (asks_of W.meaning self.now.plan) j request.object request.mode }
+        ensures { Notes (IsFreedOver (asks_of W.meaning self.now.plan) self.now.history j request.object) became.old became.new }
+    {
+        for asked in self.queues[request.object as usize].front() {
+            if self.is_freed(j, request.mode, *asked) {
+                became.note(asked.entry);
+            }
+        }
+    }
+
+    // Whether what is asked for here conflicts with an earlier entry's request in this mode, and may be had now.
+    fn is_freed(&self, j: u32, mode: Mode, asked: Asked) -> bool
+        requires { asked.entry < length self.now.plan }
+        ensures { IsTrue result ↔ IsFreed (asks_of W.meaning self.now.plan) self.now.history j mode asked }
+    {
+        asked.entry > j && asked.mode.conflicts(mode) && self.check(asked.entry).is_ok()
+    }
+
+    // Marks an entry that is out as released.
+    fn mark_released(&mut self, seat: u32, j: u32)
         requires within { j < length self.old.plan }
         requires out { IsTrue (is_out (status_of self.old.history j)) }
         ensures plan { self.new.plan ≡ self.old.plan }
@@ -226,12 +280,25 @@ impl<W: Work> Table<W> {
         let at = self.statuses[j as usize].seat();
         let_go(&mut self.queues, j, self.works[j as usize].requests());
         self.statuses[j as usize] = Status::Released(at);
+        self.first = first_unreleased(&self.statuses, self.first);
         self.history.push_reserved(Event {
             kind: EventKind::Release,
             entry: j,
             seat,
         });
     }
+}
+
+// The first place whose status is not released, not before `from`.
+fn first_unreleased(statuses: &[Status], from: usize) -> usize
+    requires { from ≤ first_open statuses.now }
+    ensures { result ≡ first_open statuses.now }
+{
+    let mut first = from;
+    while first < statuses.len() && statuses[first].is_released() {
+        first += 1;
+    }
+    first
 }
 
 // So many queues with no requests.

@@ -1,6 +1,6 @@
 ghost use Rattle.std.specs.Prelude.{◌≡◌, ◌<◌, ◌+◌, ◌^◌, ◌++◌, ◌∷◌, [], IfOk, length, OnOk};
 
-use crate::{DispatchError, Journal, ListJournal, Machine, Request, Work};
+use crate::{Became, DispatchError, Journal, ListJournal, Machine, Request, Work};
 use pooma_queue::Mode;
 use std::alloc::{AllocError, Global};
 use std::slice;
@@ -85,17 +85,32 @@ fn ask(rt: &HostRuntime, machine: &mut Machine<Small>, object: u32, mode: Mode) 
     }
 }
 
-// Dispatches an entry, does its work and releases it.
-fn run(rt: &HostRuntime, machine: &mut Machine<Small>, seat: u32, j: u32) -> Result<(), Fail>
+// Requests so many entries that read one object.
+fn ask_reads(
+    rt: &HostRuntime,
+    machine: &mut Machine<Small>,
+    object: u32,
+    times: u32,
+) -> Result<(), Fail>
+    requires there { object < length machine.old.opening }
+    requires few { length machine.old.plan + times < 100 }
+    ensures plan { OnOk result (length machine.new.plan ≡ length machine.old.plan + times) }
+    ensures opening { machine.new.opening ≡ machine.old.opening }
+{
+    for _ in 0..times {
+        ask(rt, machine, object, Mode::Read)?;
+    }
+    Ok(())
+}
+
+// Dispatches an entry, does its work and releases it, and answers what became ready.
+fn run(rt: &HostRuntime, machine: &mut Machine<Small>, seat: u32, j: u32) -> Result<Became, Fail>
     requires { j < length machine.old.plan }
     ensures plan { machine.new.plan ≡ machine.old.plan }
     ensures opening { machine.new.opening ≡ machine.old.opening }
 {
     match machine.dispatch(rt.alloc(), seat, j) {
-        Ok(loan) => {
-            machine.release(seat, loan.perform());
-            Ok(())
-        }
+        Ok(loan) => Ok(machine.release(seat, loan.perform())),
         Err(_) => Err(Fail::from("not dispatched")),
     }
 }
@@ -110,7 +125,9 @@ fn a_write_two_reads_and_a_write_of_one_object(rt: HostRuntime) -> Result<(), Fa
     assert_eq!(rt; ask(&rt, &mut machine, 0, Mode::Write)?, 3);
     let early = machine.dispatch(rt.alloc(), 0, 3).err();
     assert_eq!(rt; early, Some(DispatchError::NotReady { object: 0, by: 0 }));
-    run(&rt, &mut machine, 0, 0)?;
+    let became = run(&rt, &mut machine, 0, 0)?;
+    assert_eq!(rt; became.entries(), [1, 2].as_slice());
+    assert!(rt; !became.more());
     assert!(rt; machine.dispatch(rt.alloc(), 0, 1).is_ok());
     assert!(rt; machine.dispatch(rt.alloc(), 1, 2).is_ok());
     let held = machine.dispatch(rt.alloc(), 0, 3).err();
@@ -145,5 +162,18 @@ fn the_least_ready_entry_over_two_objects(rt: HostRuntime) -> Result<(), Fail> {
     assert_eq!(rt; objects.len(), 2);
     assert_eq!(rt; *objects[0], 2);
     assert_eq!(rt; *objects[1], 1);
+    Ok(())
+}
+
+#[test]
+fn a_release_tells_the_sixteen_least_that_became_ready(rt: HostRuntime) -> Result<(), Fail> {
+    let mut machine = opened(&rt, 1)?;
+    assert_eq!(rt; ask(&rt, &mut machine, 0, Mode::Write)?, 0);
+    ask_reads(&rt, &mut machine, 0, 17)?;
+    let became = run(&rt, &mut machine, 0, 0)?;
+    assert_eq!(rt; became.entries().len(), 16);
+    assert_eq!(rt; became.entries().first().copied(), Some(1));
+    assert_eq!(rt; became.entries().last().copied(), Some(16));
+    assert!(rt; became.more());
     Ok(())
 }

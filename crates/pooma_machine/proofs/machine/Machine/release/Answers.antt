@@ -29,8 +29,8 @@ invariant_of-self g c =
     let new_is = rw lent at c.kept-work.ensures.value in
     let shape = rw lent at c.kept-work.ensures.shape in
     let answer = rw lent at c.kept-work.ensures.outcome in
-    let sound = rw (c.release.ensures.plan, c.release.ensures.history, c.entry-j.ensures) at c.release.ensures.sound in
-    rw (c.release.ensures.plan, c.release.ensures.history, c.release.ensures.objects, c.release.ensures.spare, c.entry-j.ensures, back) (
+    let sound = rw (c.release-became.ensures.plan, c.release-became.ensures.history, c.entry-j.ensures) at c.release-became.ensures.sound in
+    rw (c.release-became.ensures.plan, c.release-became.ensures.history, c.release-became.ensures.objects, c.release-became.ensures.spare, c.entry-j.ensures, back) (
       matches_release g.W.Work.meaning c.self.inside.table.plan (map arc_value c.self.inside.opening.value.items) c.self.inside.table.history c.self.inside.slots.items c.give_back.new.slots c.self.inside.outcomes.items c.args.done.work c.args.done.entry c.args.seat c.kept-work.result.1 c.kept-work.result.2 old at out sound new_is shape answer put,
       c.self.invariant.1 ∙ sym put.count,
       c.self.invariant.2,

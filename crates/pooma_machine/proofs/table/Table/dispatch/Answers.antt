@@ -6,6 +6,7 @@ use Rattle.pooma_machine.specs.declared.step.Status.TheVariants as status
 use Rattle.pooma_machine.specs.Steps.{event_of}
 use Rattle.pooma_machine.specs.Kept.{Schedule}
 use Rattle.pooma_machine.proofs.Keeps.{kept_dispatch, asks_of_works, owes_less, sound_of}
+use Rattle.pooma_machine.proofs.Firsts.{open_kept}
 use Rattle.pooma_machine.proofs.table.Table.dispatch.Goals as goal
 
 pub push_reserved-requires : goal.push_reserved-requires
@@ -27,6 +28,7 @@ invariant_of-self g c =
       kept_dispatch _ c.self.inside.history.items c.self.inside.statuses.items c.self.inside.queues.items c.args.j c.args.seat kept (omega (arith, longs, within)) ready.0 ready.1,
       rw longer room.1,
       c.self.invariant.2,
+      c.self.invariant.3 ∙ open_kept c.self.inside.statuses.items c.args.j status.Waiting (status.Out c.args.seat) (sym (kept.stands c.args.j) ∙ ready.0) refl refl,
     )
 
 pub returns-clause-history : goal.returns-clause-history

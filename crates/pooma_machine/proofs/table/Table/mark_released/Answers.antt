@@ -7,13 +7,24 @@ use Rattle.pooma_machine.specs.declared.step.Status.TheVariants as status
 use Rattle.pooma_machine.specs.Steps.{event_of, is_out}
 use Rattle.pooma_machine.proofs.Listed.{written_back}
 use Rattle.pooma_machine.proofs.Keeps.{kept_release, in_range, asks_read, asks_of_works, owes_less, room_more, out_at, sound_of}
-use Rattle.pooma_machine.proofs.table.Table.release.Goals as goal
+use Rattle.pooma_machine.specs.Kept.{first_open}
+use Rattle.pooma_machine.proofs.Firsts.{open_released}
+use Rattle.pooma_machine.proofs.table.Table.mark_released.Goals as goal
 
 pub let_go-requires-clause-objects : goal.let_go-requires-clause-objects
 let_go-requires-clause-objects g c =
     let within : c.args.j < length c.self.inside.works.items = rw (← c.self.view_is, length-map) at c.requires.within in
     let asks = c.requests.ensures.requests ∙ (ap g.W.Work.meaning.requests c.deref.ensures ∙ sym (asks_read arc_value g.W.Work.meaning.requests c.self.inside.works.items c.args.j c.index-2.result.now within c.index-2.ensures)) in
     rw (asks, c.deref_mut.ensures.value) (in_range _ c.self.inside.history.items c.self.inside.statuses.items c.self.inside.queues.items c.args.j c.self.invariant.0)
+
+pub first_unreleased-self-inside-requires : goal.first_unreleased-self-inside-requires
+first_unreleased-self-inside-requires g c =
+    let within : c.args.j < length c.self.inside.works.items = rw (← c.self.view_is, length-map) at c.requires.within in
+    let count = c.self.invariant.0.count in
+    let longs = asks_of_works arc_value g.W.Work.meaning.requests c.self.inside.works.items in
+    let low = open_released c.self.inside.statuses.items c.args.j (status.Released c.seat-at.result) refl (omega (arith, longs, within)) in
+    let first = c.self.invariant.3 in
+    rw c.deref-2.ensures.value (omega (arith, low, first))
 
 pub push_reserved-requires : goal.push_reserved-requires
 push_reserved-requires g c =
@@ -51,6 +62,7 @@ invariant_of-self g c =
       kept_release _ c.self.inside.history.items c.self.inside.statuses.items c.self.inside.queues.items c.let_go.new.queues c.args.j c.args.seat c.seat-at.result kept in_plan (read ∙ ap Some here) lines,
       rw longer room.1,
       c.self.invariant.2,
+      c.first_unreleased-self-inside.ensures ∙ ap first_open c.deref-2.ensures.value,
     )
 
 pub returns-clause-sound : goal.returns-clause-sound

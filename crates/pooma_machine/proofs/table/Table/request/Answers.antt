@@ -6,6 +6,8 @@ use Rattle.pooma_machine.specs.Lines.{line}
 use Rattle.pooma_machine.proofs.Listed.{written_back}
 use Rattle.pooma_machine.proofs.Queues.{on_ok_holds}
 use Rattle.pooma_machine.proofs.Keeps.{kept_lines, asks_of_works, room_more, request_upheld, entries_before, sound_of}
+use Rattle.pooma_machine.specs.declared.step.Status.TheVariants as status
+use Rattle.pooma_machine.proofs.Firsts.{open_pushed}
 use Rattle.pooma_machine.proofs.table.Table.request.Goals as goal
 
 pub invariant_of-self-then-is_err-2 : goal.invariant_of-self-then-is_err-2
@@ -20,6 +22,7 @@ invariant_of-self-then-is_err-2 g c =
       kept_lines _ c.self.inside.history.items c.self.inside.statuses.items c.self.inside.queues.items c.make_room.new.queues c.self.invariant.0 lines,
       more,
       c.self.invariant.2,
+      c.self.invariant.3,
     )
 
 pub enter-requires-clause-later : goal.enter-requires-clause-later
@@ -81,7 +84,12 @@ invariant_of-self-2 g c =
     (omega (arith, room.2, c.self.inside.works.ok.0)) in
     let fewer = rw (← c.self.view_is, length-map) at c.requires.fewer in
     let longer = ap length c.push_reserved.ensures.items in
-    rw (back, back2, c.push_reserved.ensures.capacity, c.push_reserved-2.ensures.capacity, c.push_reserved-3.ensures.capacity, c.saturating_sub-self-inside.ensures) (upheld.0, upheld.1, rw (c.push_reserved.ensures.items, c.room_for.ensures.works, length-append c.self.inside.works.items (c.args.work ∷ [])) fewer)
+    rw (back, back2, c.push_reserved.ensures.capacity, c.push_reserved-2.ensures.capacity, c.push_reserved-3.ensures.capacity, c.saturating_sub-self-inside.ensures) (
+      upheld.0,
+      upheld.1,
+      rw (c.push_reserved.ensures.items, c.room_for.ensures.works, length-append c.self.inside.works.items (c.args.work ∷ [])) fewer,
+      rw (c.push_reserved-2.ensures.items, c.room_for.ensures.statuses) (c.self.invariant.3 ∙ sym (open_pushed c.self.inside.statuses.items status.Waiting refl)),
+    )
 
 pub returns-clause-sound : goal.returns-clause-sound
 returns-clause-sound g c =

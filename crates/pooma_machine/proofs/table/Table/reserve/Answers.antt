@@ -17,6 +17,7 @@ invariant_of-self-in_err-reserve_all g c =
       kept_lines _ c.self.inside.history.items c.self.inside.statuses.items c.self.inside.queues.items c.reserve_all.new.queues c.self.invariant.0 lines,
       more,
       c.self.invariant.2,
+      c.self.invariant.3,
     )
 
 pub invariant_of-self-else-self-entries : goal.invariant_of-self-else-self-entries
@@ -31,6 +32,7 @@ invariant_of-self-else-self-entries g c =
       kept_lines _ c.self.inside.history.items c.self.inside.statuses.items c.self.inside.queues.items c.reserve_all.new.queues c.self.invariant.0 lines,
       more,
       c.self.invariant.2,
+      c.self.invariant.3,
     )
 
 pub invariant_of-self-then-self-entries : goal.invariant_of-self-then-self-entries
@@ -53,4 +55,5 @@ invariant_of-self-then-self-entries g c =
       kept_lines _ c.self.inside.history.items c.self.inside.statuses.items c.self.inside.queues.items c.reserve_all.new.queues c.self.invariant.0 lines,
       room_spare _ _ _ c.args.entries _ _ _ _ c.reserve_all.new.queues more (omega (arith, works, c.self.inside.works.ok.0)) (omega (arith, states, c.self.inside.statuses.ok.0, longs)) (omega (arith, events, len, len2, c.reserve.new.self.ok.0, items, c.self.inside.history.ok.0)) c.in_ok-reserve_all.ensures.ok,
       c.self.invariant.2,
+      c.self.invariant.3,
     )

@@ -1,0 +1,416 @@
+-- Which entries a release made ready: those that it held back over one of its objects, and that nothing holds back now.
+use Rattle.std.proofs.Common.{◌≡◌, ◌≢◌, ◌↔◌, ◌⊎◌, ◌||◌, ◌+◌, ◌<◌, ℕ, zero, suc, Bool, true, false, IsTrue, List, [], ◌∷◌, ◌++◌, length, take, drop, get_or, Contains, All, Option, Some, None, refl, sym, ◌∙◌, ap, subst, arith, inl, inr, nat_lt, cond, ◌==◌, not, ◌&&◌}
+use Rattle.std.proofs.lemmas.Bool.Decides.{eqb_tells, leb_tells}
+use Rattle.std.proofs.lemmas.List.{get_or_past, get_or_default}
+use Rattle.std.specs.List.{position_or_len, prefix_len}
+use Rattle.pooma_queue.specs.declared.queue.Mode.{Mode}
+use Rattle.pooma_queue.specs.declared.queue.Mode.TheVariants.{Read, Write}
+use Rattle.pooma_queue.specs.declared.queue.Asked.{Asked}
+use Rattle.pooma_queue.specs.Requests.{Waiting, IsInOrder, conflicts, holds_back, front_of, open_part}
+use Rattle.pooma_queue.proofs.Order.{in_order_dropped}
+use Rattle.pooma_machine.specs.declared.step.Request.{Request}
+use Rattle.pooma_machine.specs.declared.step.Event.{Event}
+use Rattle.pooma_machine.specs.declared.step.EventKind.TheVariants as kind
+use Rattle.pooma_machine.specs.declared.step.Status.TheVariants as status
+use Rattle.pooma_machine.specs.Steps.{IsRequestList, requests_of, AsksFor, ConflictOver, Conflict, IsWaiting, NothingBlocks, event_of, status_of, is_out, is_released, next}
+use Rattle.pooma_machine.specs.Became.{BecameReady, IsListOf, IsFreed, IsFreedOver, IsFreedBy, Woken, Names, Notes, with_entry}
+use Rattle.pooma_machine.specs.declared.step.Status.{Status}
+use Rattle.pooma_machine.specs.Lines.{line, IsTied}
+use Rattle.pooma_machine.specs.Kept.{IsKept}
+use Rattle.pooma_machine.proofs.Keeps.{in_range}
+use Rattle.pooma_machine.proofs.Listed.{contains_cases, contains_first, contains_rest, contains_none}
+use Rattle.pooma_machine.proofs.Plans.{status_own, status_other, asks_in_plan}
+use Rattle.pooma_machine.proofs.Ties.{request_of}
+use Rattle.pooma_machine.proofs.Holders.{order_rest, order_first}
+use Rattle.pooma_machine.proofs.Dispatching.{out_not_released}
+use Rattle.pooma_machine.proofs.Named.{with_has, has_with, with_ascending, names_with}
+
+-- whether an entry is in a list is told by looking
+pub is_there : (c : ℕ) (xs : List ℕ) → Contains xs c ⊎ (Contains xs c → ⊥)
+is_there c [] = inr (λ h. contains_none c h)
+is_there c (x ∷ xs) = by (eqb_tells c x) (is_there c xs)
+  where
+    by : (((c == x) ≡ true) × (c ≡ x)) ⊎ (((c == x) ≡ false) × (c ≢ x)) → Contains xs c ⊎ (Contains xs c → ⊥) → Contains (x ∷ xs) c ⊎ (Contains (x ∷ xs) c → ⊥)
+    by (inl same) rest = inl (subst (Contains (x ∷ xs)) (sym same.1) (contains_first x xs))
+    by (inr other) (inl there) = inl (contains_rest x xs c there)
+    by (inr other) (inr none) = inr (λ h. elim (contains_cases x xs c h) [ inl e ↦ other.1 e | inr more ↦ none more ])
+
+-- an element of a part of a list is one of the list
+pub taken_in : {X : Type 0} (n : ℕ) (xs : List X) (x : X) → Contains (take n xs) x → Contains xs x
+taken_in n [] x h = absurd (none n h)
+  where
+    none : (n : ℕ) → Contains (take n []) x → ⊥
+    none zero h = contains_none x h
+    none (suc n) h = contains_none x h
+taken_in zero (y ∷ ys) x h = absurd (contains_none x h)
+taken_in (suc n) (y ∷ ys) x h = elim (contains_cases y (take n ys) x h) [ inl e ↦ subst (Contains (y ∷ ys)) (sym e) (contains_first y ys) | inr more ↦ contains_rest y ys x (taken_in n ys x more) ]
+
+pub dropped_in : {X : Type 0} (n : ℕ) (xs : List X) (x : X) → Contains (drop n xs) x → Contains xs x
+dropped_in zero xs x h = h
+dropped_in (suc n) [] x h = absurd (contains_none x h)
+dropped_in (suc n) (y ∷ ys) x h = contains_rest y ys x (dropped_in n ys x h)
+
+-- each request of the front is one of the queue's
+pub front_in : (requests : List Asked) (a : Asked) → Contains (front_of requests) a → Contains requests a
+front_in requests a h =
+    dropped_in (prefix_len (λ (b : Asked). b.released) requests) requests a
+    (taken_in (position_or_len (holds_back Read) (open_part requests) + 1) (open_part requests) a h)
+
+-- an open request is in the open part
+pub in_open : (requests : List Asked) (a : Asked) → Contains requests a → a.released ≡ false → Contains (open_part requests) a
+in_open [] a h unreleased = h
+in_open (x ∷ xs) a h unreleased = by (in_open xs a) x.released refl
+  where
+    by : (Contains xs a → a.released ≡ false → Contains (open_part xs) a) → (b : Bool) → x.released ≡ b → Contains (open_part (x ∷ xs)) a
+    by rest true e =
+        let n = prefix_len (λ (b : Asked). b.released) xs in
+        let l : 1 + n ≡ suc n = omega arith in
+        let there : Contains (drop n xs) a = elim (contains_cases x xs a h) [
+          | inl same ↦ absurd (cc (sym unreleased ∙ (ap (λ (b : Asked). b.released) same ∙ e)))
+          | inr more ↦ rest more unreleased
+        ] in
+        subst (λ t. Contains (drop (cond t (1 + n) 0) (x ∷ xs)) a) (sym e) (subst (λ k. Contains (drop k (x ∷ xs)) a) (sym l) there)
+    by rest false e = subst (λ t. Contains (drop (cond t (1 + prefix_len (λ (b : Asked). b.released) xs) 0) (x ∷ xs)) a) (sym e) h
+
+-- a request is in a queue up to the first that holds back, where none before it does
+pub in_up_to : (p : Asked → Bool) (xs : List Asked) (a : Asked) → IsInOrder xs → Contains xs a → ((b : Asked) → Contains xs b → b.entry < a.entry → p b ≡ false) → Contains (take (position_or_len p xs + 1) xs) a
+in_up_to p [] a order h before = absurd (contains_none a h)
+in_up_to p (x ∷ xs) a order h before = by (λ more. in_up_to p xs a (order_rest x xs order) more (λ b there. before b (contains_rest x xs b there))) (p x) refl (contains_cases x xs a h)
+  where
+    by : (Contains xs a → Contains (take (position_or_len p xs + 1) xs) a) → (t : Bool) → p x ≡ t → (a ≡ x) ⊎ Contains xs a → Contains (take (position_or_len p (x ∷ xs) + 1) (x ∷ xs)) a
+    by rest true e (inl same) = rw e (subst (Contains (x ∷ take 0 xs)) (sym same) (contains_first x (take 0 xs)))
+    by rest true e (inr more) = absurd (cc (sym e ∙ before x (contains_first x xs) (order_first x xs a order more)))
+    by rest false e (inl same) =
+        let l : 1 + position_or_len p xs + 1 ≡ suc (position_or_len p xs + 1) = omega arith in
+        rw (e, l) (subst (Contains (x ∷ take (position_or_len p xs + 1) xs)) (sym same) (contains_first x (take (position_or_len p xs + 1) xs)))
+    by rest false e (inr more) =
+        let l : 1 + position_or_len p xs + 1 ≡ suc (position_or_len p xs + 1) = omega arith in
+        rw (e, l) (contains_rest x (take (position_or_len p xs + 1) xs) a (rest more))
+
+-- an open request is at the front where none before it is to write and open
+pub in_front : (requests : List Asked) (a : Asked) → IsInOrder requests → Contains requests a → a.released ≡ false
+    → ((b : Asked) → Contains requests b → b.entry < a.entry → holds_back Read b ≡ false) → Contains (front_of requests) a
+in_front requests a order h unreleased before =
+    in_up_to (holds_back Read) (open_part requests) a
+    (in_order_dropped requests (prefix_len (λ (b : Asked). b.released) requests) order)
+    (in_open requests a h unreleased)
+    (λ b there. before b (dropped_in (prefix_len (λ (c : Asked). c.released) requests) requests b there))
+
+-- a beginning that is longer by one has one element more
+pub taken_more : {X : Type 0} (xs : List X) (i : ℕ) (d a : X) → i < length xs → Contains (take (i + 1) xs) a ↔ (Contains (take i xs) a ⊎ (a ≡ get_or xs i d))
+taken_more [] i d a within = absurd (omega arith)
+taken_more (x ∷ xs) zero d a within = (to, from)
+  where
+    to : Contains (x ∷ take 0 xs) a → Contains (take 0 (x ∷ xs)) a ⊎ (a ≡ x)
+    to h = elim (contains_cases x (take 0 xs) a h) [ inl e ↦ inr e | inr more ↦ absurd (contains_none a more) ]
+
+    from : Contains (take 0 (x ∷ xs)) a ⊎ (a ≡ x) → Contains (x ∷ take 0 xs) a
+    from (inl none) = absurd (contains_none a none)
+    from (inr e) = subst (Contains (x ∷ take 0 xs)) (sym e) (contains_first x (take 0 xs))
+taken_more (x ∷ xs) (suc i) d a within =
+    let l : suc i + 1 ≡ suc (i + 1) = omega arith in
+    rw l (to (taken_more xs i d a (omega arith)), from (taken_more xs i d a (omega arith)))
+  where
+    to : Contains (take (i + 1) xs) a ↔ (Contains (take i xs) a ⊎ (a ≡ get_or xs i d)) → Contains (x ∷ take (i + 1) xs) a → Contains (x ∷ take i xs) a ⊎ (a ≡ get_or xs i d)
+    to rest h =
+        elim (contains_cases x (take (i + 1) xs) a h) [
+          | inl e ↦ inl (subst (Contains (x ∷ take i xs)) (sym e) (contains_first x (take i xs)))
+          | inr more ↦ elim (rest.0 more) [ inl before ↦ inl (contains_rest x (take i xs) a before) | inr e ↦ inr e ]
+        ]
+
+    from : Contains (take (i + 1) xs) a ↔ (Contains (take i xs) a ⊎ (a ≡ get_or xs i d)) → Contains (x ∷ take i xs) a ⊎ (a ≡ get_or xs i d) → Contains (x ∷ take (i + 1) xs) a
+    from rest (inl h) =
+        elim (contains_cases x (take i xs) a h) [
+          | inl e ↦ subst (Contains (x ∷ take (i + 1) xs)) (sym e) (contains_first x (take (i + 1) xs))
+          | inr more ↦ contains_rest x (take (i + 1) xs) a (rest.1 (inl more))
+        ]
+    from rest (inr e) = contains_rest x (take (i + 1) xs) a (rest.1 (inr e))
+
+-- what conflicts one way conflicts the other way
+pub conflicts_back : (one other : Mode) → conflicts one other ≡ conflicts other one
+conflicts_back Read Read = refl
+conflicts_back Read Write = refl
+conflicts_back Write Read = refl
+conflicts_back Write Write = refl
+
+-- an entry asks for an object in one mode
+pub one_mode : (requests : List Request) (object : ℕ) (a b : Mode) → IsRequestList requests → Contains requests (record { object = object; mode = a }) → Contains requests (record { object = object; mode = b }) → a ≡ b
+one_mode requests object a b form (i, hi, ei) (k, hk, ek) =
+    let oi : (get_or requests i d).object ≡ object = ap (λ (r : Request). r.object) ei' in
+    let ok : (get_or requests k d).object ≡ object = ap (λ (r : Request). r.object) ek' in
+    elim (eqb_tells i k) [
+      | inl same ↦
+          let at : get_or requests i d ≡ get_or requests k d = ap (λ n. get_or requests n d) same.1 in
+          ap (λ (r : Request). r.mode) (sym ei' ∙ (at ∙ ek'))
+      | inr other ↦
+          elim (leb_tells (suc i) k) [
+            | inl t ↦ let lt : (get_or requests i d).object < (get_or requests k d).object = (form i k d t.1 hk).0 in absurd (omega arith)
+            | inr f ↦ let lt : (get_or requests k d).object < (get_or requests i d).object = (form k i d (omega (arith, f.1, other.1)) hi).0 in absurd (omega arith)
+          ]
+    ]
+  where
+    d : Request
+    d = record { object = object; mode = a }
+
+    ei' : get_or requests i d ≡ record { object = object; mode = a }
+    ei' = ei
+
+    ek' : get_or requests k d ≡ record { object = object; mode = b }
+    ek' = get_or_default requests k d (record { object = object; mode = b }) hk ∙ ek
+
+-- the numbers noted are the same where the tests agree
+pub notes_same : (P Q : ℕ → Type 0) (old new : Woken) → ((c : ℕ) → P c ↔ Q c) → Notes P old new → Notes Q old new
+notes_same P Q old new same noted whole up names =
+    let n = noted whole up names in (
+      n.0,
+      n.1,
+      n.2,
+      λ c. (
+        λ h. elim ((n.3 c).0 h) [ inl there ↦ inl there | inr p ↦ inr ((same c).0 p) ],
+        λ h. (n.3 c).1 (elim h [ inl there ↦ inl there | inr q ↦ inr ((same c).1 q) ]),
+      ),
+    )
+
+-- one more number noted
+pub notes_more : (P : ℕ → Type 0) (old now new : Woken) (j : ℕ) → Notes P old now → new.entries ≡ take 16 (with_entry j now.entries)
+    → new.more ≡ (now.more || nat_lt 16 (length (with_entry j now.entries))) → Notes (λ c. P c ⊎ (c ≡ j)) old new
+notes_more P old now new j noted entries more whole up names =
+    let n = noted whole up names in (
+      with_entry j n.0,
+      with_ascending j n.0 n.1,
+      names_with now new n.0 j n.2 entries more,
+      λ c. (
+        λ h. elim (with_has j n.0 c h) [
+          | inl there ↦ elim ((n.3 c).0 there) [ inl before ↦ inl before | inr p ↦ inr (inl p) ]
+          | inr same ↦ inr (inr same)
+        ],
+        λ h. has_with j n.0 c (by c ((n.3 c).1) h),
+      ),
+    )
+  where
+    by : {A B C : Type 0} (c : ℕ) → (A ⊎ B → C) → A ⊎ (B ⊎ (c ≡ j)) → C ⊎ (c ≡ j)
+    by c old (inl a) = inl (old (inl a))
+    by c old (inr (inl b)) = inl (old (inr b))
+    by c old (inr (inr e)) = inr e
+
+-- among these requests there is one of this entry that is freed
+abbrev pub FreedAmong : List (List Request) → List Event → ℕ → Mode → List Asked → ℕ → Type 0
+FreedAmong plan history j mode xs c = (asked : Asked) × Contains xs asked × (asked.entry ≡ c) × IsFreed plan history j mode asked
+
+-- one more request is looked at
+pub freed_noted : (plan : List (List Request)) (history : List Event) (j : ℕ) (mode : Mode) (xs : List Asked) (i : ℕ) (d : Asked) (old now new : Woken) → i < length xs
+    → IsFreed plan history j mode (get_or xs i d) → Notes (FreedAmong plan history j mode (take i xs)) old now
+    → new.entries ≡ take 16 (with_entry (get_or xs i d).entry now.entries) → new.more ≡ (now.more || nat_lt 16 (length (with_entry (get_or xs i d).entry now.entries)))
+    → Notes (FreedAmong plan history j mode (take (i + 1) xs)) old new
+freed_noted plan history j mode xs i d old now new within freed noted entries more =
+    notes_same (λ c. FreedAmong plan history j mode (take i xs) c ⊎ (c ≡ (get_or xs i d).entry)) (FreedAmong plan history j mode (take (i + 1) xs)) old new
+    (λ c. (to c, from c))
+    (notes_more (FreedAmong plan history j mode (take i xs)) old now new (get_or xs i d).entry noted entries more)
+  where
+    to : (c : ℕ) → FreedAmong plan history j mode (take i xs) c ⊎ (c ≡ (get_or xs i d).entry) → FreedAmong plan history j mode (take (i + 1) xs) c
+    to c (inl (a, there, is, f)) = (a, (taken_more xs i d a within).1 (inl there), is, f)
+    to c (inr e) = (get_or xs i d, (taken_more xs i d (get_or xs i d) within).1 (inr refl), sym e, freed)
+
+    from : (c : ℕ) → FreedAmong plan history j mode (take (i + 1) xs) c → FreedAmong plan history j mode (take i xs) c ⊎ (c ≡ (get_or xs i d).entry)
+    from c (a, there, is, f) =
+        elim ((taken_more xs i d a within).0 there) [
+          | inl before ↦ inl (a, before, is, f)
+          | inr e ↦ inr (sym is ∙ ap (λ (b : Asked). b.entry) e)
+        ]
+
+pub freed_passed : (plan : List (List Request)) (history : List Event) (j : ℕ) (mode : Mode) (xs : List Asked) (i : ℕ) (d : Asked) (old now : Woken) → i < length xs
+    → (IsFreed plan history j mode (get_or xs i d) → ⊥) → Notes (FreedAmong plan history j mode (take i xs)) old now → Notes (FreedAmong plan history j mode (take (i + 1) xs)) old now
+freed_passed plan history j mode xs i d old now within not_freed noted =
+    notes_same (FreedAmong plan history j mode (take i xs)) (FreedAmong plan history j mode (take (i + 1) xs)) old now (λ c. (to c, from c)) noted
+  where
+    to : (c : ℕ) → FreedAmong plan history j mode (take i xs) c → FreedAmong plan history j mode (take (i + 1) xs) c
+    to c (a, there, is, f) = (a, (taken_more xs i d a within).1 (inl there), is, f)
+
+    from : (c : ℕ) → FreedAmong plan history j mode (take (i + 1) xs) c → FreedAmong plan history j mode (take i xs) c
+    from c (a, there, is, f) =
+        elim ((taken_more xs i d a within).0 there) [
+          | inl before ↦ (a, before, is, f)
+          | inr e ↦ absurd (not_freed (subst (IsFreed plan history j mode) e f))
+        ]
+
+-- nothing noted yet
+pub notes_none : (P : ℕ → Type 0) (old : Woken) → ((c : ℕ) → P c → ⊥) → Notes P old old
+notes_none P old none whole up names = (whole, up, names, λ c. (λ h. inl h, λ h. elim h [ inl there ↦ there | inr p ↦ absurd (none c p) ]))
+
+-- what a request that holds back a read is
+pub open_write : (b : Asked) → holds_back Read b ≡ true → (b.released ≡ false) × (conflicts b.mode Read ≡ true)
+open_write b e = parts b.released (conflicts b.mode Read) e
+  where
+    parts : (r c : Bool) → (not r && c) ≡ true → (r ≡ false) × (c ≡ true)
+    parts true c e = absurd (cc e)
+    parts false c e = (refl, e)
+
+pub writes_all : (a b : Mode) → conflicts a Read ≡ true → conflicts a b ≡ true
+writes_all Read b e = absurd (cc e)
+writes_all Write Read e = refl
+writes_all Write Write e = refl
+
+-- each entry of a plan whose lists are in form asks in form
+pub form_at : (plan : List (List Request)) (j : ℕ) → All IsRequestList plan → IsRequestList (requests_of plan j)
+form_at plan j form =
+    elim (leb_tells (suc j) (length plan)) [
+      | inl t ↦ form j [] t.1
+      | inr f ↦ subst IsRequestList (sym (get_or_past plan j [] (omega (arith, f.1)))) nothing
+    ]
+  where
+    nothing : IsRequestList []
+    nothing i k d lt within = absurd (omega arith)
+
+-- the front of a queue has what is freed over its object, and no more
+pub freed_over : (plan : List (List Request)) (history : List Event) (queues : List Waiting) (j object : ℕ) (mode : Mode) (c : ℕ)
+    → IsTied plan (λ i. is_released (status_of history i)) queues → All IsRequestList plan → AsksFor plan j object mode
+    → FreedAmong plan history j mode (front_of (line queues object)) c ↔ IsFreedOver plan history j object c
+freed_over plan history queues j object mode c tied form asks = (to, from)
+  where
+    to : FreedAmong plan history j mode (front_of (line queues object)) c → IsFreedOver plan history j object c
+    to (a, there, is, f) =
+        let stands = tied.stands object a (front_in (line queues object) a there) in
+        subst (λ k. IsFreedOver plan history j object k) is (record {
+          later = f.later;
+          over = record { one = mode; other = a.mode; asks_one = asks; asks_other = stands.0; conflicting = conflicts_back mode a.mode ∙ f.conflicting };
+          ready = f.ready;
+        })
+
+    from : IsFreedOver plan history j object c → FreedAmong plan history j mode (front_of (line queues object)) c
+    from f =
+        let a : Asked = record { entry = c; mode = f.over.other; released = is_released (status_of history c) } in
+        let there : Contains (line queues object) a = tied.there c object f.over.other f.over.asks_other in
+        let unreleased : is_released (status_of history c) ≡ false = ap is_released f.ready.0 in
+        let mine : f.over.one ≡ mode = one_mode (requests_of plan j) object f.over.one mode (form_at plan j form) f.over.asks_one asks in (
+          a,
+          in_front (line queues object) a (tied.order object) there unreleased (λ b in_line earlier. free b in_line earlier (holds_back Read b) refl f),
+          refl,
+          record { later = f.later; conflicting = conflicts_back f.over.other mode ∙ (ap (λ m. conflicts m f.over.other) (sym mine) ∙ f.over.conflicting); ready = f.ready },
+        )
+      where
+        free : (b : Asked) → Contains (line queues object) b → b.entry < c → (t : Bool) → holds_back Read b ≡ t → IsFreedOver plan history j object c → holds_back Read b ≡ false
+        free b in_line earlier false e g = e
+        free b in_line earlier true e g =
+            let stands = tied.stands object b in_line in
+            let says = open_write b e in
+            let over : ConflictOver plan b.entry c object = record { one = b.mode; other = g.over.other; asks_one = stands.0; asks_other = g.over.asks_other; conflicting = writes_all b.mode g.over.other says.1 } in
+            let done : is_released (status_of history b.entry) ≡ true = g.ready.1 b.entry earlier (object, over) in
+            absurd (cc (sym says.0 ∙ (stands.1 ∙ done)))
+
+-- an object that an entry asks for is there
+pub object_there : (plan : List (List Request)) (history : List Event) (statuses : List Status) (queues : List Waiting) (j object : ℕ) (mode : Mode) → IsKept plan history statuses queues
+    → AsksFor plan j object mode → object < length queues
+object_there plan history statuses queues j object mode kept (k, h, e) =
+    subst (λ (r : Request). r.object < length queues) e (in_range plan history statuses queues j kept k (record { object = object; mode = mode }) h)
+
+-- an element of a list is in it
+pub there_at : {X : Type 0} (xs : List X) (k : ℕ) (d : X) → k < length xs → Contains xs (get_or xs k d)
+there_at xs k d h = (k, h, get_or_default xs k (get_or xs k d) d h)
+
+-- a request of a queue is of an entry of the plan
+pub asked_in_plan : (plan : List (List Request)) (f : ℕ → Bool) (queues : List Waiting) (object : ℕ) (a : Asked) → IsTied plan f queues → Contains (line queues object) a → a.entry < length plan
+asked_in_plan plan f queues object a tied h = asks_in_plan plan a.entry object a.mode (tied.stands object a h).0
+
+-- an answer that names a list of the numbers for which it holds
+abbrev pub NamesThose : (ℕ → Type 0) → Woken → Type 0
+NamesThose P woken = (whole : List ℕ) × IsListOf P whole × Names woken whole
+
+pub names_those_same : (P Q : ℕ → Type 0) (woken : Woken) → ((c : ℕ) → P c ↔ Q c) → NamesThose P woken → NamesThose Q woken
+names_those_same P Q woken same (whole, list, names) =
+    (whole, record { ascending = list.ascending; exactly = λ c. (λ h. (same c).0 ((list.exactly c).0 h), λ q. (list.exactly c).1 ((same c).1 q)) }, names)
+
+-- one that names nothing, where it holds for nothing
+pub names_nothing : (P : ℕ → Type 0) (woken : Woken) → ((c : ℕ) → P c → ⊥) → woken.entries ≡ [] → woken.more ≡ false → NamesThose P woken
+names_nothing P woken none entries more =
+    ([], record { ascending = λ i j d lt within. absurd (omega arith); exactly = λ c. (λ h. absurd (contains_none c h), λ p. absurd (none c p)) }, (entries, more))
+
+-- further ones noted
+pub names_those_more : (P Q : ℕ → Type 0) (old new : Woken) → NamesThose P old → Notes Q old new → NamesThose (λ c. P c ⊎ Q c) new
+names_those_more P Q old new (whole, list, names) noted =
+    let n = noted whole list.ascending names in (
+      n.0,
+      record {
+        ascending = n.1;
+        exactly = λ c. (
+          λ h. elim ((n.3 c).0 h) [ inl there ↦ inl ((list.exactly c).0 there) | inr q ↦ inr q ],
+          λ h. (n.3 c).1 (elim h [ inl p ↦ inl ((list.exactly c).1 p) | inr q ↦ inr q ]),
+        );
+      },
+      n.2,
+    )
+
+-- an entry is freed over an object for which one of these requests of this one asks
+abbrev pub FreedOverSome : List (List Request) → List Event → ℕ → List Request → ℕ → Type 0
+FreedOverSome plan history j requests c = (r : Request) × Contains requests r × IsFreedOver plan history j r.object c
+
+pub freed_over_more : (plan : List (List Request)) (history : List Event) (j : ℕ) (requests : List Request) (i : ℕ) (d : Request) (old new : Woken) → i < length requests
+    → NamesThose (FreedOverSome plan history j (take i requests)) old → Notes (IsFreedOver plan history j (get_or requests i d).object) old new
+    → NamesThose (FreedOverSome plan history j (take (i + 1) requests)) new
+freed_over_more plan history j requests i d old new within named noted =
+    names_those_same (λ c. FreedOverSome plan history j (take i requests) c ⊎ IsFreedOver plan history j (get_or requests i d).object c) (FreedOverSome plan history j (take (i + 1) requests)) new
+    (λ c. (to c, from c))
+    (names_those_more (FreedOverSome plan history j (take i requests)) (IsFreedOver plan history j (get_or requests i d).object) old new named noted)
+  where
+    to : (c : ℕ) → FreedOverSome plan history j (take i requests) c ⊎ IsFreedOver plan history j (get_or requests i d).object c → FreedOverSome plan history j (take (i + 1) requests) c
+    to c (inl (r, there, f)) = (r, (taken_more requests i d r within).1 (inl there), f)
+    to c (inr f) = (get_or requests i d, (taken_more requests i d (get_or requests i d) within).1 (inr refl), f)
+
+    from : (c : ℕ) → FreedOverSome plan history j (take (i + 1) requests) c → FreedOverSome plan history j (take i requests) c ⊎ IsFreedOver plan history j (get_or requests i d).object c
+    from c (r, there, f) =
+        elim ((taken_more requests i d r within).0 there) [
+          | inl before ↦ inl (r, before, f)
+          | inr e ↦ inr (subst (λ (q : Request). IsFreedOver plan history j q.object c) e f)
+        ]
+
+-- over all its requests, those are freed that it conflicts with
+pub freed_by : (plan : List (List Request)) (history : List Event) (j : ℕ) (requests : List Request) (c : ℕ) → requests ≡ requests_of plan j
+    → FreedOverSome plan history j requests c ↔ IsFreedBy plan history j c
+freed_by plan history j requests c same = (
+  λ h. (h.0.object, h.2),
+  λ h.
+      let f : IsFreedOver plan history j h.0 c = h.1 in
+      (request_of h.0 f.over.one, subst (λ rs. Contains rs (request_of h.0 f.over.one)) (sym same) f.over.asks_one, f),
+)
+
+-- what a release frees is what became ready by it
+pub freed_became : (plan : List (List Request)) (history : List Event) (j seat : ℕ) (woken : Woken) → IsTrue (is_out (status_of history j))
+    → NamesThose (IsFreedBy plan (history ++ event_of kind.Release j seat ∷ []) j) woken
+    → NamesThose (BecameReady plan history (history ++ event_of kind.Release j seat ∷ [])) woken
+freed_became plan history j seat woken out (whole, list, names) = (
+  whole,
+  record { ascending = list.ascending; exactly = λ c. (λ h. became c ((list.exactly c).0 h), λ b. listed c (is_there c whole) b) },
+  names,
+)
+  where
+    after : List Event
+    after = history ++ event_of kind.Release j seat ∷ []
+
+    became : (c : ℕ) → IsFreedBy plan after j c → BecameReady plan history after c
+    became c (object, f) = (f.ready, λ before. out_not_released (status_of history j) out (before.1 j f.later (object, f.over)))
+
+    other : (c : ℕ) → IsWaiting after c → j ≢ c
+    other c waiting same =
+        released_waits (status_of history j) out (sym (status_own history kind.Release j seat) ∙ (ap (status_of after) same ∙ waiting))
+      where
+        released_waits : (s : Option Status) → is_out s ≡ true → next kind.Release seat s ≡ Some status.Waiting → ⊥
+        released_waits (Some (status.Out at)) o w = cc w
+        released_waits (Some status.Waiting) o w = cc o
+        released_waits (Some (status.Released at)) o w = cc o
+        released_waits None o w = cc o
+
+    waits : (c : ℕ) → IsWaiting after c → IsWaiting history c
+    waits c waiting = sym (status_other history kind.Release j seat c (other c waiting)) ∙ waiting
+
+    listed : (c : ℕ) → Contains whole c ⊎ (Contains whole c → ⊥) → BecameReady plan history after c → Contains whole c
+    listed c (inl there) b = there
+    listed c (inr none) b = absurd (b.1 (waits c b.0.0, clear))
+      where
+        clear : NothingBlocks plan history c
+        clear i earlier conflict =
+            elim (eqb_tells j i) [
+              | inl same ↦
+                  let mine : Conflict plan j c = subst (λ k. Conflict plan k c) (sym same.1) conflict in
+                  let before : j < c = subst (λ k. k < c) (sym same.1) earlier in
+                  absurd (none ((list.exactly c).1 (mine.0, record { later = before; over = mine.1; ready = b.0 })))
+              | inr differs ↦ subst (λ s. IsTrue (is_released s)) (status_other history kind.Release j seat i differs.1) (b.0.1 i earlier conflict)
+            ]
