@@ -1,0 +1,4 @@
+pub mod Asked
+pub mod Objects
+pub mod Requests
+pub mod Releases

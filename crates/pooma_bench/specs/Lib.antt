@@ -1,0 +1,3 @@
+pub mod Increments
+pub mod Windows
+pub mod Command

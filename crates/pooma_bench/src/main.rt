@@ -1,0 +1,40 @@
+//! The project's measurements. What was done goes to standard output, and how long its parts took to standard error.
+#![tactic(auto)]
+
+use command::Command;
+use measure::measure;
+use std::process::ExitCode;
+use std::rt::Env;
+use std::{env, io};
+use window::MOST_ENTRIES;
+
+mod command;
+mod increment;
+mod measure;
+mod window;
+
+/// The words ask for no measurement.
+const USAGE: u8 = 2;
+
+fn main(rt: HostRuntime) -> io::Result<ExitCode> {
+    let words = words(&rt)?;
+    let Some(Command::Machine { entries }) = Command::from_words(&words) else {
+        eprintln!(rt;
+            "usage: pooma_bench machine N, where N is a number from 1 to {MOST_ENTRIES}"
+        )?;
+        return Ok(ExitCode::from(USAGE));
+    };
+    let (tally, times) = measure(&rt, entries)?;
+    println!(rt; "{tally}")?;
+    eprintln!(rt; "{times}")?;
+    Ok(ExitCode::SUCCESS)
+}
+
+/// The words after the program's name.
+fn words<R: Env + AllocGlobal>(rt: &R) -> io::Result<Vec<String>> {
+    let mut words = Vec::new(rt.alloc());
+    for word in env::args(rt)?.skip(1) {
+        words.push(word)?;
+    }
+    Ok(words)
+}

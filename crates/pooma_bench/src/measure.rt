@@ -1,0 +1,80 @@
+ghost use Rattle.std.specs.Prelude.{◌≡◌, ◌*◌, ◌≤◌, IfOk};
+
+use crate::window::{MOST_ENTRIES, OBJECTS, opened, request_all, run_all, sum_of};
+use std::time::{Clock, Duration, Instant};
+use std::{fmt, io};
+
+/// What was done in a window, in numbers.
+#[derive(Clone, Copy, Debug, PartialEq, Eq)]
+pub struct Tally {
+    /// How many entries it had.
+    pub entries: u32,
+    /// How many events its history has.
+    pub events: usize,
+    /// The sum of the objects' values at its end.
+    pub sum: u64,
+}
+
+impl fmt::Display for Tally {
+    fn fmt<W: fmt::Write>(&self, f: &mut fmt::Formatter<W>) -> fmt::Result {
+        let Tally {
+            entries,
+            events,
+            sum,
+        } = self;
+        write!(
+            f,
+            "machine: {entries} entries over {OBJECTS} objects, {events} events, sum {sum}"
+        )
+    }
+}
+
+/// How long the parts of a window took.
+#[derive(Clone, Copy, Debug)]
+pub struct Times {
+    requesting: Duration,
+    running: Duration,
+    finishing: Duration,
+    total: Duration,
+}
+
+impl fmt::Display for Times {
+    fn fmt<W: fmt::Write>(&self, f: &mut fmt::Formatter<W>) -> fmt::Result {
+        let requesting = self.requesting.as_micros();
+        let running = self.running.as_micros();
+        let finishing = self.finishing.as_micros();
+        let total = self.total.as_micros();
+        write!(
+            f,
+            "microseconds: requesting {requesting}, running {running}, finishing {finishing}, total {total}"
+        )
+    }
+}
+
+/// Runs one window of so many entries: each adds one to an object and has a request, a dispatch and a release.
+pub fn measure<R: Clock + AllocGlobal>(rt: &R, entries: u32) -> io::Result<(Tally, Times)>
+    requires { entries ≤ MOST_ENTRIES }
+    ensures { IfOk result (λ pair. pair.0 ≡ record { entries = entries; events = 3 * entries; sum = entries }) }
+{
+    let mut machine = opened(rt.alloc())?;
+    let begun = Instant::now(rt)?;
+    request_all(rt.alloc(), &mut machine, entries)?;
+    let requested = Instant::now(rt)?;
+    run_all(rt.alloc(), &mut machine)?;
+    let ran = Instant::now(rt)?;
+    let events = machine.history().len();
+    let objects = machine.finish(rt.alloc())?;
+    let finished = Instant::now(rt)?;
+    let tally = Tally {
+        entries,
+        events,
+        sum: sum_of(&objects),
+    };
+    let times = Times {
+        requesting: requested.duration_since(begun),
+        running: ran.duration_since(requested),
+        finishing: finished.duration_since(ran),
+        total: finished.duration_since(begun),
+    };
+    Ok((tally, times))
+}
