@@ -25,6 +25,7 @@ pub struct Shelf {
 }
 
 impl Shelf {
+    /// A shelf with nothing on it and room for so many bytes, which is taken here.
     pub fn new(alloc: Global, room: usize) -> Result<Shelf, AllocError>
         ensures empty { IfOk result (λ shelf. shelf.bytes.items ≡ []) }
         ensures room { IfOk result (λ shelf. shelf.room ≡ room) }

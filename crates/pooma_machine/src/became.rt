@@ -29,7 +29,7 @@ impl Model for Became {
 }
 
 impl Became {
-    // No entries.
+    /// No entries.
     pub(crate) fn none() -> Became
         ensures entries { result.entries ≡ [] }
         ensures more { result.more ≡ false }
@@ -54,7 +54,7 @@ impl Became {
         self.more
     }
 
-    // Notes one more entry, if it is not noted yet.
+    /// Notes one more entry, if it is not noted yet.
     pub(crate) fn note(&mut self, entry: u32)
         ensures entries { self.new.entries ≡ take 16 (with_entry entry self.old.entries) }
         ensures more { self.new.more ≡ (self.old.more || nat_lt 16 (length (with_entry entry self.old.entries))) }

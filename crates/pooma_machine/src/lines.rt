@@ -13,7 +13,7 @@ pub(crate) struct Holder {
     pub(crate) by: u32,
 }
 
-// Makes room for one further request in the queue of each object that is asked for.
+/// Makes room for one further request in the queue of each object that is asked for.
 pub(crate) fn make_room(queues: &mut [Queue], requests: &[Request]) -> Result<(), AllocError>
     requires { All (λ r. r.object < length queues.old) requests.now }
     ensures lines { (o : ℕ) → line queues.new o ≡ line queues.old o }
@@ -28,7 +28,7 @@ pub(crate) fn make_room(queues: &mut [Queue], requests: &[Request]) -> Result<()
     Ok(())
 }
 
-// Makes room for so many further requests in each queue.
+/// Makes room for so many further requests in each queue.
 pub(crate) fn reserve_all(queues: &mut [Queue], n: usize) -> Result<(), AllocError>
     ensures lines { (o : ℕ) → line queues.new o ≡ line queues.old o }
     ensures rooms { (o : ℕ) → room_at queues.old o ≤ room_at queues.new o }
@@ -41,7 +41,7 @@ pub(crate) fn reserve_all(queues: &mut [Queue], n: usize) -> Result<(), AllocErr
     Ok(())
 }
 
-// Puts an entry's requests behind those of the earlier entries.
+/// Puts an entry's requests behind those of the earlier entries.
 pub(crate) fn enter(queues: &mut [Queue], entry: u32, requests: &[Request])
     requires objects { All (λ r. r.object < length queues.old) requests.now }
     requires form { IsRequestList requests.now }
@@ -56,7 +56,7 @@ pub(crate) fn enter(queues: &mut [Queue], entry: u32, requests: &[Request])
     }
 }
 
-// Marks an entry's requests as released.
+/// Marks an entry's requests as released.
 pub(crate) fn let_go(queues: &mut [Queue], entry: u32, requests: &[Request])
     requires objects { All (λ r. r.object < length queues.old) requests.now }
     requires form { IsRequestList requests.now }
@@ -69,7 +69,7 @@ pub(crate) fn let_go(queues: &mut [Queue], entry: u32, requests: &[Request])
     }
 }
 
-// The least earlier entry that holds this one back, and the first object over which it does.
+/// The least earlier entry that holds this one back, and the first object over which it does.
 pub(crate) fn held(queues: &[Queue], entry: u32, requests: &[Request]) -> Option<Holder>
     requires { All (λ r. r.object < length queues.now) requests.now }
     ensures { result ≡ held_by queues.now entry requests.now }

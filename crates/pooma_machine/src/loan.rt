@@ -55,7 +55,7 @@ impl<W: Work> Model for Done<W> {
 impl<W: Work> Loan<W> {
     ghost use Rattle.std.specs.Prelude.{option_map};
 
-    // What is lent to an entry.
+    /// What is lent to an entry.
     pub(crate) fn new(
         entry: u32,
         work: Arc<W>,
@@ -152,7 +152,7 @@ impl<W: Work> Done<W> {
         self.entry
     }
 
-    // What the machine keeps of it: the work, the new value of the object that it writes, and the outcome.
+    /// What the machine keeps of it: the work, the new value of the object that it writes, and the outcome.
     pub(crate) fn kept(self) -> (Arc<W>, Option<W::Value>, W::Outcome)
         ensures work { arc_value result.0 ≡ self.work }
         ensures value { result.1 ≡ new_value_of W.meaning self.work self.lent }

@@ -17,7 +17,7 @@ pub(crate) enum Slot<V> {
     Away,
 }
 
-// One more owner of the slot's value, which is there. After want of memory it is as before.
+/// One more owner of the slot's value, which is there. After want of memory it is as before.
 pub(crate) fn share<V: Drop>(alloc: Global, slot: &mut Slot<V>) -> Result<Arc<V>, AllocError>
     requires { IsSome (value_in slot.old) }
     ensures value { value_in slot.new ≡ value_in slot.old }
@@ -44,8 +44,8 @@ pub(crate) fn share<V: Drop>(alloc: Global, slot: &mut Slot<V>) -> Result<Arc<V>
     }
 }
 
-// The slot's value, which is there, for one writer alone. It is copied only where another owner still shares it. After want
-// of memory the slot is as before.
+/// The slot's value, which is there, for one writer alone. It is copied only where another owner still shares it. After want
+/// of memory the slot is as before.
 pub(crate) fn take<W: Work>(
     alloc: Global,
     slot: &mut Slot<W::Value>,

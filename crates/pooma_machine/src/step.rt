@@ -46,13 +46,14 @@ impl Status {
     ghost use Rattle.std.specs.Prelude.{◌≡◌, Some, IfSome};
     ghost use Rattle.pooma_machine.specs.Steps.{is_released, is_out, seat_of};
 
+    /// Whether the entry was released.
     pub(crate) fn is_released(&self) -> bool
         ensures { result ≡ is_released (Some self.now) }
     {
         matches!(self, Status::Released(_))
     }
 
-    // The seat of its dispatch, if the entry was dispatched.
+    /// The seat of its dispatch, if the entry was dispatched.
     pub(crate) fn seat(&self) -> u32
         ensures { IfSome (seat_of (Some self.now)) (λ seat. result ≡ seat) }
     {
@@ -63,6 +64,7 @@ impl Status {
         }
     }
 
+    /// Whether it was dispatched, and not released yet.
     pub(crate) fn is_out(&self) -> bool
         ensures { result ≡ is_out (Some self.now) }
     {

@@ -50,7 +50,7 @@ impl<W: Work> Table<W> {
     ghost use Rattle.pooma_machine.specs.declared.step.EventKind.TheVariants as kind;
     ghost use Rattle.pooma_machine.specs.Refusals.{Refuses};
 
-    // A table of no entries over so many objects.
+    /// A table of no entries over so many objects.
     pub(crate) fn new(alloc: Global, objects: usize) -> Result<Table<W>, AllocError>
         requires { objects < 2 ^ 32 }
         ensures empty { IfOk result (λ table. (table.plan ≡ []) × (table.history ≡ []) × (table.objects ≡ objects) × (table.spare ≡ 0)) }
@@ -66,7 +66,7 @@ impl<W: Work> Table<W> {
         })
     }
 
-    // Makes room for so many further entries.
+    /// Makes room for so many further entries.
     pub(crate) fn reserve(&mut self, entries: u32) -> Result<(), AllocError>
         ensures ok { OnOk result (entries ≤ self.new.spare) }
         ensures spare { self.old.spare ≤ self.new.spare }
@@ -87,7 +87,7 @@ impl<W: Work> Table<W> {
         Ok(())
     }
 
-    // One more owner of the entry's work.
+    /// One more owner of the entry's work.
     pub(crate) fn share_work(&self, j: u32) -> Result<Arc<W>, AllocError>
         requires { j < length self.now.plan }
         ensures { IfOk result (λ work. slice_get self.now.plan j ≡ Some (arc_value work)) }
@@ -95,7 +95,7 @@ impl<W: Work> Table<W> {
         Arc::try_clone(&self.works[j as usize])
     }
 
-    // The work of the entry.
+    /// The work of the entry.
     pub(crate) fn work(&self, j: u32) -> &W
         requires { j < length self.now.plan }
         ensures { slice_get self.now.plan j ≡ Some result.now }
@@ -103,7 +103,7 @@ impl<W: Work> Table<W> {
         &self.works[j as usize]
     }
 
-    // How many entries were issued.
+    /// How many entries were issued.
     pub(crate) fn issued(&self) -> u32
         ensures count { result ≡ length self.now.plan }
         ensures ended { (j : ℕ) → length self.now.plan ≤ j → status_of self.now.history j ≡ None }
@@ -111,14 +111,14 @@ impl<W: Work> Table<W> {
         self.works.len() as u32
     }
 
-    // What has happened.
+    /// What has happened.
     pub(crate) fn history(&self) -> &[Event]
         ensures { result.now ≡ self.now.history }
     {
         &self.history
     }
 
-    // Where the entry stands.
+    /// Where the entry stands.
     pub(crate) fn status(&self, j: u32) -> Status
         requires { j < length self.now.plan }
         ensures { status_of self.now.history j ≡ Some result }
@@ -126,8 +126,8 @@ impl<W: Work> Table<W> {
         self.statuses[j as usize]
     }
 
-    // Issues the next entry. Only want of memory refuses it, never while there is spare room; then all is as before, and the
-    // work is handed back.
+    /// Issues the next entry. Only want of memory refuses it, never while there is spare room; then all is as before, and the
+    /// work is handed back.
     pub(crate) fn request(&mut self, seat: u32, work: Arc<W>) -> Result<u32, Arc<W>>
         requires objects { All (λ r. r.object < self.old.objects) (W.meaning.requests (arc_value work)) }
         requires fewer { length self.old.plan + 1 < 2 ^ 32 }
@@ -160,7 +160,7 @@ impl<W: Work> Table<W> {
         Ok(entry)
     }
 
-    // The least entry that was not released. None exactly where each was.
+    /// The least entry that was not released. None exactly where each was.
     pub(crate) fn least_unreleased(&self) -> Option<u32>
         ensures { MatchOption result (IsComplete self.now.plan self.now.history) (IsLeastUnreleased (length self.now.plan) self.now.history) }
     {
@@ -171,7 +171,7 @@ impl<W: Work> Table<W> {
         }
     }
 
-    // The least entry not below `from` that may be dispatched. None exactly where there is none.
+    /// The least entry not below `from` that may be dispatched. None exactly where there is none.
     pub(crate) fn ready_from(&self, from: u32) -> Option<u32>
         ensures there { IfSome result (λ j. j < length self.now.plan) }
         ensures least { MatchOption result ((j : ℕ) → from ≤ j → IsReady (asks_of W.meaning self.now.plan) self.now.history j → ⊥) (IsLeastReady (asks_of W.meaning self.now.plan) self.now.history from) }
@@ -186,7 +186,7 @@ impl<W: Work> Table<W> {
         None
     }
 
-    // Whether the entry may be dispatched, and why not.
+    /// Whether the entry may be dispatched, and why not.
     pub(crate) fn check(&self, j: u32) -> Result<(), Refusal>
         requires { j < length self.now.plan }
         ensures ready { OnOk result (IsReady (asks_of W.meaning self.now.plan) self.now.history j) }
@@ -202,7 +202,7 @@ impl<W: Work> Table<W> {
         }
     }
 
-    // Notes the dispatch of an entry that may be dispatched.
+    /// Notes the dispatch of an entry that may be dispatched.
     pub(crate) fn dispatch(&mut self, seat: u32, j: u32)
         requires within { j < length self.old.plan }
         requires ready { IsReady (asks_of W.meaning self.old.plan) self.old.history j }
@@ -220,7 +220,7 @@ impl<W: Work> Table<W> {
         });
     }
 
-    // Notes the release of an entry that is out, and tells which entries became ready by it.
+    /// Notes the release of an entry that is out, and tells which entries became ready by it.
     pub(crate) fn release(&mut self, seat: u32, j: u32) -> Became
         requires within { j < length self.old.plan }
         requires out { IsTrue (is_out (status_of self.old.history j)) }

@@ -110,7 +110,7 @@ fn least_common(a: Run, b: Run) -> Option<i64>
     }
 }
 
-// The least and the greatest number that both have.
+/// The least and the greatest number that both have.
 pub(crate) fn common_ends(a: Strided, b: Strided) -> Option<(i32, i32)>
     ensures least { IfSome result (λ ends. IsStriding a.first a.stride a.count ends.0 × IsStriding b.first b.stride b.count ends.0) }
     ensures greatest { IfSome result (λ ends. IsStriding a.first a.stride a.count ends.1 × IsStriding b.first b.stride b.count ends.1) }

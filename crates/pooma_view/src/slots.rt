@@ -18,7 +18,7 @@ impl Slot {
     ghost use Rattle.pooma_view.specs.Common.{NamesNumber};
     ghost use Rattle.pooma_view.specs.Slots.{with_places, coordinate, left_over, first_named, last_named, Accepts, HasPlaces, IsWithinPlaces, IsRestricted};
 
-    // The box of positions, where that of the later slots is known.
+    /// The box of positions, where that of the later slots is known.
     pub(crate) fn with_places(self, later: &BoxN) -> BoxN
         requires { IsBox (with_places self later.now) }
         ensures { result ≡ with_places self later.now }
@@ -32,7 +32,7 @@ impl Slot {
         }
     }
 
-    // The coordinate at a position, of which these numbers are left.
+    /// The coordinate at a position, of which these numbers are left.
     pub(crate) fn coordinate(self, position: &Cell) -> i32
         requires { Accepts self position.now }
         ensures { result ≡ coordinate self position.now }
@@ -43,7 +43,7 @@ impl Slot {
         }
     }
 
-    // The numbers of the position that are left for the later slots.
+    /// The numbers of the position that are left for the later slots.
     pub(crate) fn left_over(self, position: &Cell) -> Cell
         requires { Accepts self position.now }
         ensures { result ≡ left_over self position.now }
@@ -54,8 +54,8 @@ impl Slot {
         }
     }
 
-    // The numbers of the one position that names this coordinate, where those of the later slots
-    // are known.
+    /// The numbers of the one position that names this coordinate, where those of the later slots
+    /// are known.
     pub(crate) fn place_of(self, x: i32, later: &Cell) -> Option<Cell>
         requires few { length later.now < 3 }
         requires fits { HasPlaces self }
@@ -71,7 +71,7 @@ impl Slot {
         }
     }
 
-    // The coordinates at the first and at the last place.
+    /// The coordinates at the first and at the last place.
     pub(crate) fn ends(self) -> (i32, i32)
         ensures first { result.0 ≡ first_named self }
         ensures last { result.1 ≡ last_named self }
@@ -82,7 +82,7 @@ impl Slot {
         }
     }
 
-    // The slot at the places of the first axis of this box of positions, counted from 0 again.
+    /// The slot at the places of the first axis of this box of positions, counted from 0 again.
     pub(crate) fn restrict(self, places: &BoxN) -> Slot
         requires { IsWithinPlaces self places.now }
         ensures { IsRestricted self result places.now }
@@ -97,7 +97,7 @@ impl Slot {
         }
     }
 
-    // The axes of a box of positions that are left for the later slots.
+    /// The axes of a box of positions that are left for the later slots.
     pub(crate) fn later_places(self, places: &BoxN) -> BoxN
         requires { IsWithinPlaces self places.now }
         ensures { result ≡ left_over self places.now }
@@ -118,7 +118,7 @@ impl Slot {
         }
     }
 
-    // The least and the greatest coordinate that both slots name.
+    /// The least and the greatest coordinate that both slots name.
     pub(crate) fn common_ends(self, other: Slot) -> Option<(i32, i32)>
         ensures least { IfSome result (λ ends. NamesNumber self ends.0 × NamesNumber other ends.0) }
         ensures greatest { IfSome result (λ ends. NamesNumber self ends.1 × NamesNumber other ends.1) }
