@@ -232,23 +232,23 @@ impl<W: Work> Table<W> {
         ensures became { TellsReady (asks_of W.meaning self.old.plan) self.old.history self.new.history result }
     {
         self.mark_released(seat, j);
-        self.woken(j)
+        self.freed_by(j)
     }
 
-    // The entries that may be dispatched now and that this one, which was released, conflicted with.
-    fn woken(&self, j: u32) -> Became
+    // The entries that may be dispatched now, and that waited for entry j.
+    fn freed_by(&self, j: u32) -> Became
         requires { j < length self.now.plan }
         ensures { (whole : List ℕ) × IsListOf (IsFreedBy (asks_of W.meaning self.now.plan) self.now.history j) whole × Names result whole }
     {
         let mut became = Became::none();
         for request in self.works[j as usize].requests() {
-            self.wake(j, *request, &mut became);
+            self.note_freed(j, *request, &mut became);
         }
         became
     }
 
-    // Notes those with which it conflicted over the object of this request of it.
-    fn wake(&self, j: u32, request: Request, became: &mut Became)
+    // Notes the entries that are freed over the object of this request of the released entry.
+    fn note_freed(&self, j: u32, request: Request, became: &mut Became)
         requires { AsksFor (asks_of W.meaning self.now.plan) j request.object request.mode }
         ensures { Notes (IsFreedOver (asks_of W.meaning self.now.plan) self.now.history j request.object) became.old became.new }
     {
@@ -259,7 +259,7 @@ impl<W: Work> Table<W> {
         }
     }
 
-    // Whether what is asked for here conflicts with an earlier entry's request in this mode, and may be had now.
+    // Whether what is asked for here conflicts with an earlier request of entry j in this mode, and may be had now.
     fn is_freed(&self, j: u32, mode: Mode, asked: Asked) -> bool
         requires { asked.entry < length self.now.plan }
         ensures { IsTrue result ↔ IsFreed (asks_of W.meaning self.now.plan) self.now.history j mode asked }

@@ -8,14 +8,14 @@ use Rattle.pooma_machine.specs.Became.{IsFreedBy}
 use Rattle.pooma_machine.proofs.Keeps.{asks_read}
 use Rattle.pooma_machine.proofs.Listed.{contains_none}
 use Rattle.pooma_machine.proofs.Waking.{there_at, FreedOverSome, names_nothing, freed_over_more, freed_by, names_those_same}
-use Rattle.pooma_machine.proofs.table.Table.woken.Goals as goal
+use Rattle.pooma_machine.proofs.table.Table.freed_by.Goals as goal
 
 pub loop-request-init : goal.loop-request-init
 loop-request-init g c =
     names_nothing (FreedOverSome (asks_of g.W.Work.meaning c.args.self.now.plan) c.args.self.now.history c.args.j []) c.none-became.result (λ k h. contains_none h.0 h.1) c.none-became.ensures.entries c.none-became.ensures.more
 
-pub wake-requires : goal.wake-requires
-wake-requires g c =
+pub note_freed-requires : goal.note_freed-requires
+note_freed-requires g c =
     let within : c.args.j < length c.self.inside.works.items = rw (← c.self.view_is, length-map) at c.requires in
     let asks = c.requests-request-items.ensures.requests ∙ (ap g.W.Work.meaning.requests c.deref.ensures ∙ sym (asks_read arc_value g.W.Work.meaning.requests c.self.inside.works.items c.args.j c.index.result.now within c.index.ensures)) in
     let d : Request = record { object = 0; mode = Read } in
@@ -24,7 +24,7 @@ wake-requires g c =
 pub loop-request-preserved : goal.loop-request-preserved
 loop-request-preserved g c =
     let d : Request = record { object = 0; mode = Read } in
-    freed_over_more (asks_of g.W.Work.meaning c.args.self.now.plan) c.args.self.now.history c.args.j c.requests-request-items.result.now c.loop-request.request-index d c.loop-request.became c.wake.new.became c.loop-request-test.true c.loop-request.invariant c.wake.ensures
+    freed_over_more (asks_of g.W.Work.meaning c.args.self.now.plan) c.args.self.now.history c.args.j c.requests-request-items.result.now c.loop-request.request-index d c.loop-request.became c.note_freed.new.became c.loop-request-test.true c.loop-request.invariant c.note_freed.ensures
 
 pub returns : goal.returns
 returns g c =

@@ -11,8 +11,8 @@ use Rattle.pooma_machine.proofs.Queues.{queue_read}
 use Rattle.pooma_machine.proofs.Waking.{object_there, there_at, asked_in_plan, front_in, freed_noted, freed_passed, freed_over, notes_same, FreedAmong}
 use Rattle.pooma_machine.specs.Values.{asks_of}
 use Rattle.pooma_machine.specs.Became.{Notes, IsFreedOver}
-use Rattle.pooma_machine.proofs.table.Table.wake.Goals.{then-is_freed, else-is_freed}
-use Rattle.pooma_machine.proofs.table.Table.wake.Goals as goal
+use Rattle.pooma_machine.proofs.table.Table.note_freed.Goals.{then-is_freed, else-is_freed}
+use Rattle.pooma_machine.proofs.table.Table.note_freed.Goals as goal
 
 pub index-requires : goal.index-requires
 index-requires g c =
