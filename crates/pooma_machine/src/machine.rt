@@ -72,7 +72,6 @@ impl<W: Work> Machine<W> {
 
     /// A machine of no entries, with objects of these values. Only want of memory refuses it, and hands them back.
     pub fn new(alloc: Global, objects: Vec<Arc<W::Value>>) -> Result<Machine<W>, Vec<Arc<W::Value>>>
-        requires { length objects.items < 2 ^ 32 }
         ensures plan { IfOk result (λ machine. machine.plan ≡ []) }
         ensures opening { IfOk result (λ machine. machine.opening ≡ map arc_value objects.items) }
         ensures history { IfOk result (λ machine. machine.history ≡ []) }
@@ -204,7 +203,6 @@ impl<W: Work> Machine<W> {
     /// Takes back what this machine lent to an entry that is out: the object that its work writes has the new value, and the
     /// outcome is kept. It answers which entries became ready by it. It takes no memory, and can't be refused.
     pub fn release(&mut self, seat: u32, done: Done<W>) -> Became
-        requires within { done.entry < length self.old.plan }
         requires out { IsTrue (is_out (status_of self.old.history done.entry)) }
         requires work { slice_get self.old.plan done.entry ≡ Some done.work }
         requires lent { done.lent ≡ (values W.meaning self.old.plan self.old.opening self.old.history).lent done.entry }
@@ -267,13 +265,12 @@ impl<W: Work> Machine<W> {
         self.table.work(j)
     }
 
-    /// What the entry's work answered. None exactly where it is not released.
+    /// What the entry's work answered. None exactly where it is not released, or was not issued.
     pub fn outcome(&self, j: u32) -> Option<&W::Outcome>
-        requires { j < length self.now.plan }
         ensures value { option_copied result ≡ (values W.meaning self.now.plan self.now.opening self.now.history).outcome j }
         ensures released { is_some result ≡ is_released (status_of self.now.history j) }
     {
-        self.outcomes[j as usize].as_ref()
+        self.outcomes.get(j as usize)?.as_ref()
     }
 }
 

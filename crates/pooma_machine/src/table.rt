@@ -52,7 +52,6 @@ impl<W: Work> Table<W> {
 
     /// A table of no entries over so many objects.
     pub(crate) fn new(alloc: Global, objects: usize) -> Result<Table<W>, AllocError>
-        requires { objects < 2 ^ 32 }
         ensures empty { IfOk result (λ table. (table.plan ≡ []) × (table.history ≡ []) × (table.objects ≡ objects) × (table.spare ≡ 0)) }
         ensures sound { IfOk result (λ table. IsSound (asks_of W.meaning table.plan) table.history) }
     {

@@ -51,7 +51,6 @@ impl Work for Small {
 
 // A machine of so many objects, each of which is 0.
 fn opened(rt: &HostRuntime, objects: usize) -> Result<Machine<Small>, Fail>
-    requires { objects < 2 ^ 32 }
     ensures plan { IfOk result (λ machine. length machine.plan ≡ 0) }
     ensures opening { IfOk result (λ machine. length machine.opening ≡ objects) }
 {
@@ -153,6 +152,7 @@ fn the_least_ready_entry_over_two_objects(rt: HostRuntime) -> Result<(), Fail> {
     run(&rt, &mut machine, 0, 2)?;
     assert!(rt; machine.all_released());
     assert_eq!(rt; machine.outcome(0).copied(), Some(0));
+    assert_eq!(rt; machine.outcome(3).copied(), None);
     let mut journal = ListJournal::new(rt.alloc());
     journal.window(rt.alloc(), &machine)?;
     assert_eq!(rt; journal.windows(), 1);
