@@ -1,5 +1,5 @@
 -- Which entries a release made ready: those that it held back over one of its objects, and that nothing holds back now.
-use Rattle.std.proofs.Common.{◌≡◌, ◌≢◌, ◌↔◌, ◌⊎◌, ◌||◌, ◌+◌, ◌<◌, ℕ, zero, suc, Bool, true, false, IsTrue, List, [], ◌∷◌, ◌++◌, length, take, drop, get_or, Contains, All, Option, Some, None, refl, sym, ◌∙◌, ap, subst, arith, inl, inr, nat_lt, cond, ◌==◌, not, ◌&&◌}
+use Rattle.std.proofs.Common.{◌≡◌, ◌≢◌, ◌↔◌, ◌⊎◌, ◌||◌, ◌+◌, ◌<◌, ℕ, suc, Bool, true, false, IsTrue, List, [], ◌∷◌, ◌++◌, length, take, drop, get_or, Contains, All, Option, Some, None, refl, sym, ◌∙◌, ap, subst, arith, inl, inr, nat_lt, cond, not, ◌&&◌}
 use Rattle.std.proofs.lemmas.Bool.Decides.{eqb_tells, leb_tells}
 use Rattle.std.proofs.lemmas.List.{get_or_past, get_or_default}
 use Rattle.std.specs.List.{position_or_len, prefix_len}
@@ -18,37 +18,12 @@ use Rattle.pooma_machine.specs.declared.step.Status.{Status}
 use Rattle.pooma_machine.specs.Lines.{line, IsTied}
 use Rattle.pooma_machine.specs.Kept.{IsKept}
 use Rattle.pooma_machine.proofs.Keeps.{in_range}
-use Rattle.pooma_machine.proofs.Listed.{contains_cases, contains_first, contains_rest, contains_none}
+use Rattle.pooma_machine.proofs.Listed.{contains_cases, contains_first, contains_rest, contains_none, is_there, taken_in, dropped_in, taken_more}
 use Rattle.pooma_machine.proofs.Plans.{status_own, status_other, asks_in_plan}
 use Rattle.pooma_machine.proofs.Ties.{request_of}
 use Rattle.pooma_machine.proofs.Holders.{order_rest, order_first}
 use Rattle.pooma_machine.proofs.Dispatching.{out_not_released}
 use Rattle.pooma_machine.proofs.Named.{with_has, has_with, with_ascending, names_with}
-
--- whether an entry is in a list is told by looking
-pub is_there : (c : ℕ) (xs : List ℕ) → Contains xs c ⊎ (Contains xs c → ⊥)
-is_there c [] = inr (λ h. contains_none c h)
-is_there c (x ∷ xs) = by (eqb_tells c x) (is_there c xs)
-  where
-    by : (((c == x) ≡ true) × (c ≡ x)) ⊎ (((c == x) ≡ false) × (c ≢ x)) → Contains xs c ⊎ (Contains xs c → ⊥) → Contains (x ∷ xs) c ⊎ (Contains (x ∷ xs) c → ⊥)
-    by (inl same) rest = inl (subst (Contains (x ∷ xs)) (sym same.1) (contains_first x xs))
-    by (inr other) (inl there) = inl (contains_rest x xs c there)
-    by (inr other) (inr none) = inr (λ h. elim (contains_cases x xs c h) [ inl e ↦ other.1 e | inr more ↦ none more ])
-
--- an element of a part of a list is one of the list
-pub taken_in : {X : Type 0} (n : ℕ) (xs : List X) (x : X) → Contains (take n xs) x → Contains xs x
-taken_in n [] x h = absurd (none n h)
-  where
-    none : (n : ℕ) → Contains (take n []) x → ⊥
-    none zero h = contains_none x h
-    none (suc n) h = contains_none x h
-taken_in zero (y ∷ ys) x h = absurd (contains_none x h)
-taken_in (suc n) (y ∷ ys) x h = elim (contains_cases y (take n ys) x h) [ inl e ↦ subst (Contains (y ∷ ys)) (sym e) (contains_first y ys) | inr more ↦ contains_rest y ys x (taken_in n ys x more) ]
-
-pub dropped_in : {X : Type 0} (n : ℕ) (xs : List X) (x : X) → Contains (drop n xs) x → Contains xs x
-dropped_in zero xs x h = h
-dropped_in (suc n) [] x h = absurd (contains_none x h)
-dropped_in (suc n) (y ∷ ys) x h = contains_rest y ys x (dropped_in n ys x h)
 
 -- each request of the front is one of the queue's
 pub front_in : (requests : List Asked) (a : Asked) → Contains (front_of requests) a → Contains requests a
@@ -95,36 +70,6 @@ in_front requests a order h unreleased before =
     (in_order_dropped requests (prefix_len (λ (b : Asked). b.released) requests) order)
     (in_open requests a h unreleased)
     (λ b there. before b (dropped_in (prefix_len (λ (c : Asked). c.released) requests) requests b there))
-
--- a beginning that is longer by one has one element more
-pub taken_more : {X : Type 0} (xs : List X) (i : ℕ) (d a : X) → i < length xs → Contains (take (i + 1) xs) a ↔ (Contains (take i xs) a ⊎ (a ≡ get_or xs i d))
-taken_more [] i d a within = absurd (omega arith)
-taken_more (x ∷ xs) zero d a within = (to, from)
-  where
-    to : Contains (x ∷ take 0 xs) a → Contains (take 0 (x ∷ xs)) a ⊎ (a ≡ x)
-    to h = elim (contains_cases x (take 0 xs) a h) [ inl e ↦ inr e | inr more ↦ absurd (contains_none a more) ]
-
-    from : Contains (take 0 (x ∷ xs)) a ⊎ (a ≡ x) → Contains (x ∷ take 0 xs) a
-    from (inl none) = absurd (contains_none a none)
-    from (inr e) = subst (Contains (x ∷ take 0 xs)) (sym e) (contains_first x (take 0 xs))
-taken_more (x ∷ xs) (suc i) d a within =
-    let l : suc i + 1 ≡ suc (i + 1) = omega arith in
-    rw l (to (taken_more xs i d a (omega arith)), from (taken_more xs i d a (omega arith)))
-  where
-    to : Contains (take (i + 1) xs) a ↔ (Contains (take i xs) a ⊎ (a ≡ get_or xs i d)) → Contains (x ∷ take (i + 1) xs) a → Contains (x ∷ take i xs) a ⊎ (a ≡ get_or xs i d)
-    to rest h =
-        elim (contains_cases x (take (i + 1) xs) a h) [
-          | inl e ↦ inl (subst (Contains (x ∷ take i xs)) (sym e) (contains_first x (take i xs)))
-          | inr more ↦ elim (rest.0 more) [ inl before ↦ inl (contains_rest x (take i xs) a before) | inr e ↦ inr e ]
-        ]
-
-    from : Contains (take (i + 1) xs) a ↔ (Contains (take i xs) a ⊎ (a ≡ get_or xs i d)) → Contains (x ∷ take i xs) a ⊎ (a ≡ get_or xs i d) → Contains (x ∷ take (i + 1) xs) a
-    from rest (inl h) =
-        elim (contains_cases x (take i xs) a h) [
-          | inl e ↦ subst (Contains (x ∷ take (i + 1) xs)) (sym e) (contains_first x (take (i + 1) xs))
-          | inr more ↦ contains_rest x (take (i + 1) xs) a (rest.1 (inl more))
-        ]
-    from rest (inr e) = contains_rest x (take (i + 1) xs) a (rest.1 (inr e))
 
 -- what conflicts one way conflicts the other way
 pub conflicts_back : (one other : Mode) → conflicts one other ≡ conflicts other one
@@ -303,10 +248,6 @@ pub object_there : (plan : List (List Request)) (history : List Event) (statuses
 object_there plan history statuses queues j object mode kept (k, h, e) =
     subst (λ (r : Request). r.object < length queues) e (in_range plan history statuses queues j kept k (record { object = object; mode = mode }) h)
 
--- an element of a list is in it
-pub there_at : {X : Type 0} (xs : List X) (k : ℕ) (d : X) → k < length xs → Contains xs (get_or xs k d)
-there_at xs k d h = (k, h, get_or_default xs k (get_or xs k d) d h)
-
 -- a request of a queue is of an entry of the plan
 pub asked_in_plan : (plan : List (List Request)) (f : ℕ → Bool) (queues : List Waiting) (object : ℕ) (a : Asked) → IsTied plan f queues → Contains (line queues object) a → a.entry < length plan
 asked_in_plan plan f queues object a tied h = asks_in_plan plan a.entry object a.mode (tied.stands object a h).0
@@ -395,7 +336,7 @@ freed_became plan history j seat woken out (whole, list, names) = (
         released_waits : (s : Option Status) → is_out s ≡ true → next kind.Release seat s ≡ Some status.Waiting → ⊥
         released_waits (Some (status.Out at)) o w = cc w
         released_waits (Some status.Waiting) o w = cc o
-        released_waits (Some (status.Released at)) o w = cc o
+        released_waits (Some (status.Released at)) o w = cc w
         released_waits None o w = cc o
 
     waits : (c : ℕ) → IsWaiting after c → IsWaiting history c

@@ -13,7 +13,7 @@ entry_of meaning work = record { statement = meaning.statement work; requests = 
 abbrev pub window_of : {W V O S : Type 0} → Meaning W V O S → List W → List Event → Window
 window_of meaning plan history = record { entries = map (entry_of meaning) plan; events = history }
 
--- where the windows are known, this one was added at their end
+-- where the windows are known, this one was added at their end; where they are not, they still are not
 abbrev pub Tells : Option (List Window) → Option (List Window) → Window → Type 0
-Tells None new window = Unit {0}
+Tells None new window = new ≡ None
 Tells (Some windows) new window = new ≡ Some (windows ++ window ∷ [])

@@ -6,8 +6,8 @@ use Rattle.pooma_machine.specs.declared.step.Request.{Request}
 use Rattle.pooma_machine.specs.Values.{asks_of}
 use Rattle.pooma_machine.specs.Became.{IsFreedBy}
 use Rattle.pooma_machine.proofs.Keeps.{asks_read}
-use Rattle.pooma_machine.proofs.Listed.{contains_none}
-use Rattle.pooma_machine.proofs.Waking.{there_at, FreedOverSome, names_nothing, freed_over_more, freed_by, names_those_same}
+use Rattle.pooma_machine.proofs.Listed.{contains_none, there_at}
+use Rattle.pooma_machine.proofs.Waking.{FreedOverSome, names_nothing, freed_over_more, freed_by, names_those_same}
 use Rattle.pooma_machine.proofs.table.Table.freed_by.Goals as goal
 
 pub loop-request-init : goal.loop-request-init

@@ -8,7 +8,8 @@ use Rattle.pooma_machine.specs.Lines.{line}
 use Rattle.pooma_machine.specs.Steps.{is_released, status_of}
 use Rattle.pooma_machine.proofs.Keeps.{asks_of_works}
 use Rattle.pooma_machine.proofs.Queues.{queue_read}
-use Rattle.pooma_machine.proofs.Waking.{object_there, there_at, asked_in_plan, front_in, freed_noted, freed_passed, freed_over, notes_same, FreedAmong}
+use Rattle.pooma_machine.proofs.Listed.{there_at}
+use Rattle.pooma_machine.proofs.Waking.{object_there, asked_in_plan, front_in, freed_noted, freed_passed, freed_over, notes_same, FreedAmong}
 use Rattle.pooma_machine.specs.Values.{asks_of}
 use Rattle.pooma_machine.specs.Became.{Notes, IsFreedOver}
 use Rattle.pooma_machine.proofs.table.Table.note_freed.Goals.{then-is_freed, else-is_freed}
