@@ -47,6 +47,11 @@ abbrev pub HasPlaces : Slot → Type 0
 HasPlaces (Fixed x) = Unit {0}
 HasPlaces (Along s) = IsAxis (places s)
 
+-- the places of a slot as an axis: a fixed slot has one
+abbrev pub places_of : Slot → Interval
+places_of (Fixed x) = interval (pos 0) (pos 0)
+places_of (Along s) = places s
+
 -- the least place's coordinate, and the greatest place's
 abbrev pub first_named : Slot → ℤ
 first_named (Fixed x) = x

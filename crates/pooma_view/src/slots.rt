@@ -1,5 +1,6 @@
-ghost use Rattle.std.specs.Prelude.{◌≡◌, ◌<◌, ℤ, Some, List, length, ◌↔◌, ◌≤ℤ◌, IsTrue, IfSome, IsSomeAnd};
-ghost use Rattle.pooma_domain.specs.Cells.{IsBox};
+ghost use Rattle.std.specs.Prelude.{◌≡◌, ◌<◌, ℤ, Some, List, length, ◌↔◌, ◌≤ℤ◌, IsTrue, IsSome, IfSome, IsSomeAnd};
+ghost use Rattle.pooma_domain.specs.Axes.{interval_of};
+ghost use Rattle.pooma_domain.specs.Cells.{IsAxis, IsBox};
 
 use crate::common::common_ends;
 use pooma_domain::{Axis, BoxN, Cell, Strided};
@@ -16,7 +17,22 @@ pub enum Slot {
 
 impl Slot {
     ghost use Rattle.pooma_view.specs.Common.{NamesNumber};
-    ghost use Rattle.pooma_view.specs.Slots.{with_places, coordinate, left_over, first_named, last_named, Accepts, HasPlaces, IsWithinPlaces, IsRestricted};
+    ghost use Rattle.pooma_view.specs.Slots.{places_of, with_places, coordinate, left_over, first_named, last_named, Accepts, HasPlaces, IsWithinPlaces, IsRestricted};
+
+    /// The places as an axis: a fixed slot has one place. None where they are more than an axis
+    /// may have.
+    pub(crate) fn places(self) -> Option<Axis>
+        ensures found { IsSome result ↔ IsAxis (places_of self) }
+        ensures value { IfSome result (λ axis. interval_of axis ≡ places_of self) }
+    {
+        match self {
+            Slot::Fixed(_) => Axis::of(0, 0),
+            Slot::Along(numbers) => {
+                let last = i32::try_from(numbers.count - 1).ok()?;
+                Axis::of(0, last)
+            }
+        }
+    }
 
     /// The box of positions, where that of the later slots is known.
     pub(crate) fn with_places(self, later: &BoxN) -> BoxN

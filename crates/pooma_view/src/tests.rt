@@ -1,4 +1,4 @@
-ghost use Rattle.std.specs.Prelude.{◌≡◌, ◌<◌, ◌≤◌};
+ghost use Rattle.std.specs.Prelude.{◌≡◌, ◌^◌, ◌<◌, ◌≤◌};
 
 use crate::{Slot, View};
 use pooma_domain::{Axis, BoxN, Strided};
@@ -31,7 +31,7 @@ fn a_view_names_its_cells(rt: HostRuntime) -> Result<(), Fail> {
 
 // So many numbers from 0 on.
 fn up_to(count: u32) -> Strided
-    requires { (0 < count) × (count ≤ 1000) }
+    requires { (0 < count) × (count < 2 ^ 31) }
     ensures { result.count ≡ count }
 {
     Strided {
@@ -62,5 +62,25 @@ fn a_column_overlaps_a_row_off_the_diagonal(rt: HostRuntime) -> Result<(), Fail>
     for (column, row, count, is_overlap) in table {
         assert_eq!(rt; column_overlaps_row(column, row, count), is_overlap);
     }
+    Ok(())
+}
+
+#[test]
+fn positions_make_a_box_where_they_can_be_counted(rt: HostRuntime) -> Result<(), Fail> {
+    let row = Slot::Along(up_to(8));
+    let long = Slot::Along(up_to(4_000_000));
+    assert!(rt; View::new(0, &[row, Slot::Fixed(3), long]).has_positions());
+    assert!(rt; View::new(0, &[long, long]).has_positions());
+    assert!(rt; !View::new(0, &[long, long, long]).has_positions());
+
+    // Three slots of 2^21 places have 2^63 positions, one more than fit.
+    let power = Slot::Along(up_to(1 << 21));
+    let one_less = Slot::Along(up_to((1 << 21) - 1));
+    assert!(rt; !View::new(0, &[power, power, power]).has_positions());
+    assert!(rt; View::new(0, &[power, one_less, power]).has_positions());
+
+    // An axis ends at 4,000,000.
+    assert!(rt; View::new(0, &[Slot::Along(up_to(4_000_001))]).has_positions());
+    assert!(rt; !View::new(0, &[Slot::Along(up_to(4_000_002))]).has_positions());
     Ok(())
 }

@@ -90,6 +90,23 @@ impl View {
         [self.x, self.y, self.z][axis]
     }
 
+    /// Whether the positions make a box, as `positions`, `position` and `overlaps` ask.
+    pub fn has_positions(&self) -> bool
+        ensures { IsTrue result ↔ IsBox (positions_of self.now.slots) }
+    {
+        let Some(x) = self.x.places() else {
+            return false;
+        };
+        let Some(y) = self.y.places() else {
+            return false;
+        };
+        let Some(z) = self.z.places() else {
+            return false;
+        };
+        // The one place of a fixed slot leaves the number of positions as it is.
+        BoxN::of3(x, y, z).is_some()
+    }
+
     /// The box of positions: an axis for each slot that goes along one, counted from 0.
     pub fn positions(&self) -> BoxN
         requires { IsBox (positions_of self.now.slots) }
