@@ -2,8 +2,7 @@ ghost use Rattle.std.specs.Prelude.{◌≡◌, ◌+◌, ◌*◌, ◌%◌, ◌<�
 ghost use Rattle.pooma_machine.specs.Values.{written_object, read_objects};
 
 use crate::window::{MOST_ENTRIES, OBJECTS};
-use pooma_machine::{Request, Work};
-use pooma_queue::Mode;
+use pooma_machine::{Mode, Request, Work};
 use std::alloc::{AllocError, Global};
 use std::marker::Model;
 use std::sync::Arc;

@@ -6,6 +6,7 @@ pub use became::Became;
 pub use journal::{Entry, Journal, ListJournal, NoJournal, RequestList};
 pub use loan::{Done, Loan};
 pub use machine::{DispatchError, Machine};
+pub use pooma_queue::Mode;
 pub use step::{Event, EventKind, Request, Status};
 pub use work::Work;
 
