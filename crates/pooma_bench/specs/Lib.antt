@@ -1,3 +1,4 @@
 pub mod Increments
 pub mod Windows
 pub mod Command
+pub mod Texts

@@ -1,7 +1,7 @@
 ghost use Rattle.std.specs.Prelude.{◌≡◌, ◌*◌, ◌≤◌, IfOk};
 
 use crate::window::{MOST_ENTRIES, OBJECTS, opened, request_all, run_all, sum_of};
-use std::time::{Clock, Duration, Instant};
+use std::time::{Clock, Instant};
 use std::{fmt, io};
 
 /// What was done in a window, in numbers.
@@ -16,6 +16,11 @@ pub struct Tally {
 }
 
 impl fmt::Display for Tally {
+    ghost use Rattle.std.specs.Prelude.{Some};
+    ghost use Rattle.pooma_bench.specs.Texts.{tally_text};
+
+    ghost output = { λ tally. Some (tally_text tally) };
+
     fn fmt<W: fmt::Write>(&self, f: &mut fmt::Formatter<W>) -> fmt::Result {
         let Tally {
             entries,
@@ -29,21 +34,32 @@ impl fmt::Display for Tally {
     }
 }
 
-/// How long the parts of a window took.
+/// How many microseconds the parts of a window took.
 #[derive(Clone, Copy, Debug)]
 pub struct Times {
-    requesting: Duration,
-    running: Duration,
-    finishing: Duration,
-    total: Duration,
+    /// Requesting all entries.
+    pub requesting: u128,
+    /// Dispatching, performing and releasing them.
+    pub running: u128,
+    /// Taking the objects out of the machine.
+    pub finishing: u128,
+    /// All of these.
+    pub total: u128,
 }
 
 impl fmt::Display for Times {
+    ghost use Rattle.std.specs.Prelude.{Some};
+    ghost use Rattle.pooma_bench.specs.Texts.{times_text};
+
+    ghost output = { λ times. Some (times_text times) };
+
     fn fmt<W: fmt::Write>(&self, f: &mut fmt::Formatter<W>) -> fmt::Result {
-        let requesting = self.requesting.as_micros();
-        let running = self.running.as_micros();
-        let finishing = self.finishing.as_micros();
-        let total = self.total.as_micros();
+        let Times {
+            requesting,
+            running,
+            finishing,
+            total,
+        } = self;
         write!(
             f,
             "microseconds: requesting {requesting}, running {running}, finishing {finishing}, total {total}"
@@ -71,10 +87,10 @@ pub fn measure<R: Clock + AllocGlobal>(rt: &R, entries: u32) -> io::Result<(Tall
         sum: sum_of(&objects),
     };
     let times = Times {
-        requesting: requested.duration_since(begun),
-        running: ran.duration_since(requested),
-        finishing: finished.duration_since(ran),
-        total: finished.duration_since(begun),
+        requesting: requested.duration_since(begun).as_micros(),
+        running: ran.duration_since(requested).as_micros(),
+        finishing: finished.duration_since(ran).as_micros(),
+        total: finished.duration_since(begun).as_micros(),
     };
     Ok((tally, times))
 }
