@@ -58,17 +58,21 @@ holder_least (x ∷ xs) entry mode b order h passes = by_test (λ more. holder_l
         let rest = again (behind f (contains_cases x xs b h)) in
         (rest.0, rw f rest.1, rest.2)
 
--- what a test says, and what makes it pass
-pub holder_says : (entry : ℕ) (mode : Mode) (a : Asked) → is_holder entry mode a ≡ true → (a.entry < entry) × (a.released ≡ false) × (conflicts a.mode mode ≡ true)
-holder_says entry mode a e =
-    elim (leb_tells (suc a.entry) entry) [
-      | inl t ↦ let both = parts a.released (conflicts a.mode mode) (rw t.0 at e) in (t.1, both.0, both.1)
-      | inr f ↦ absurd (cc (rw f.0 at e))
-    ]
+-- what holds a request back was not released, and conflicts with it
+pub holding_says : (mode : Mode) (a : Asked) → holds_back mode a ≡ true → (a.released ≡ false) × (conflicts a.mode mode ≡ true)
+holding_says mode a e = parts a.released (conflicts a.mode mode) e
   where
     parts : (r c : Bool) → (not r && c) ≡ true → (r ≡ false) × (c ≡ true)
     parts true c e = absurd (cc e)
     parts false c e = (refl, e)
+
+-- what a test says, and what makes it pass
+pub holder_says : (entry : ℕ) (mode : Mode) (a : Asked) → is_holder entry mode a ≡ true → (a.entry < entry) × (a.released ≡ false) × (conflicts a.mode mode ≡ true)
+holder_says entry mode a e =
+    elim (leb_tells (suc a.entry) entry) [
+      | inl t ↦ let both = holding_says mode a (rw t.0 at e) in (t.1, both.0, both.1)
+      | inr f ↦ absurd (cc (rw f.0 at e))
+    ]
 
 pub holder_passes : (entry : ℕ) (mode : Mode) (a : Asked) → a.entry < entry → a.released ≡ false → conflicts a.mode mode ≡ true → is_holder entry mode a ≡ true
 holder_passes entry mode a lt unreleased conflict =

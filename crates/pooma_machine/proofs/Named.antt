@@ -2,12 +2,13 @@
 use Rattle.std.proofs.Common.{◌≡◌, ◌⊎◌, ◌||◌, ◌<◌, ◌≤◌, ℕ, zero, suc, Bool, true, List, [], ◌∷◌, ◌++◌, length, take, drop, get_or, min, Contains, refl, sym, ◌∙◌, ap, subst, arith, inl, inr, nat_lt, length-take, Result, Ok, Err}
 use Rattle.std.proofs.Math.Bool.{or-false}
 use Rattle.std.proofs.lemmas.Bool.Decides.{leb_tells, eqb_tells}
-use Rattle.std.proofs.lemmas.List.{take_all, get_or-take, get_or_default}
+use Rattle.std.proofs.lemmas.List.{take_all, get_or-take}
+use Rattle.std.proofs.lemmas.List.Kept.{AllPairs-cons}
 use Rattle.std.proofs.lemmas.List.Sorted.{searched}
 use Rattle.std.specs.List.Sorted.{IsBinarySearchResult}
 use Rattle.std.specs.Ordering.{nat_cmp}
 use Rattle.pooma_machine.specs.Became.{IsAscending, Woken, Names, with_entry}
-use Rattle.pooma_machine.proofs.Listed.{contains_cases, contains_first, contains_rest, contains_none}
+use Rattle.pooma_machine.proofs.Listed.{contains_cases, contains_first, contains_rest, contains_none, there_at}
 
 -- what an ascending list begins with is below the rest, which ascends
 pub ascending_rest : (x : ℕ) (xs : List ℕ) → IsAscending (x ∷ xs) → IsAscending xs
@@ -17,12 +18,7 @@ pub ascending_first : (x : ℕ) (xs : List ℕ) (b : ℕ) → IsAscending (x ∷
 ascending_first x xs b up (k, within, is) = subst (λ y. x < y) is (up 0 (suc k) b (omega arith) (omega arith))
 
 pub ascending_cons : (x : ℕ) (xs : List ℕ) → ((b : ℕ) → Contains xs b → x < b) → IsAscending xs → IsAscending (x ∷ xs)
-ascending_cons x xs below up zero zero d lt within = absurd (omega arith)
-ascending_cons x xs below up (suc i) zero d lt within = absurd (omega arith)
-ascending_cons x xs below up zero (suc j) d lt within =
-    let there : j < length xs = omega arith in
-    below (get_or xs j d) (j, there, get_or_default xs j (get_or xs j d) d there)
-ascending_cons x xs below up (suc i) (suc j) d lt within = up i j d (omega arith) (omega arith)
+ascending_cons x xs below up = AllPairs-cons (λ a b. a < b) x xs (λ k d h. below (get_or xs k d) (there_at xs k d h)) up
 
 pub ascending_take : (xs : List ℕ) (n : ℕ) → IsAscending xs → IsAscending (take n xs)
 ascending_take xs n up i j d lt within =

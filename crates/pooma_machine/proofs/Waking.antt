@@ -1,5 +1,5 @@
 -- Which entries a release made ready: those that it held back over one of its objects, and that nothing holds back now.
-use Rattle.std.proofs.Common.{◌≡◌, ◌≢◌, ◌↔◌, ◌⊎◌, ◌||◌, ◌+◌, ◌<◌, ℕ, suc, Bool, true, false, IsTrue, List, [], ◌∷◌, ◌++◌, length, take, drop, get_or, Contains, All, Option, Some, None, refl, sym, ◌∙◌, ap, subst, arith, inl, inr, nat_lt, cond, not, ◌&&◌}
+use Rattle.std.proofs.Common.{◌≡◌, ◌≢◌, ◌↔◌, ◌⊎◌, ◌||◌, ◌+◌, ◌<◌, ℕ, suc, Bool, true, false, IsTrue, List, [], ◌∷◌, ◌++◌, length, take, drop, get_or, Contains, All, Option, Some, None, refl, sym, ◌∙◌, ap, subst, arith, inl, inr, nat_lt, cond}
 use Rattle.std.proofs.lemmas.Bool.Decides.{eqb_tells, leb_tells}
 use Rattle.std.proofs.lemmas.List.{get_or_past, get_or_default}
 use Rattle.std.specs.List.{position_or_len, prefix_len}
@@ -21,7 +21,7 @@ use Rattle.pooma_machine.proofs.Keeps.{in_range}
 use Rattle.pooma_machine.proofs.Listed.{contains_cases, contains_first, contains_rest, contains_none, is_there, taken_in, dropped_in, taken_more}
 use Rattle.pooma_machine.proofs.Plans.{status_own, status_other, asks_in_plan}
 use Rattle.pooma_machine.proofs.Ties.{request_of}
-use Rattle.pooma_machine.proofs.Holders.{order_rest, order_first}
+use Rattle.pooma_machine.proofs.Holders.{order_rest, order_first, holding_says}
 use Rattle.pooma_machine.proofs.Dispatching.{out_not_released}
 use Rattle.pooma_machine.proofs.Named.{with_has, has_with, with_ascending, names_with}
 
@@ -182,14 +182,7 @@ freed_passed plan history j mode xs i d old now within not_freed noted =
 pub notes_none : (P : ℕ → Type 0) (old : Woken) → ((c : ℕ) → P c → ⊥) → Notes P old old
 notes_none P old none whole up names = (whole, up, names, λ c. (λ h. inl h, λ h. elim h [ inl there ↦ there | inr p ↦ absurd (none c p) ]))
 
--- what a request that holds back a read is
-pub open_write : (b : Asked) → holds_back Read b ≡ true → (b.released ≡ false) × (conflicts b.mode Read ≡ true)
-open_write b e = parts b.released (conflicts b.mode Read) e
-  where
-    parts : (r c : Bool) → (not r && c) ≡ true → (r ≡ false) × (c ≡ true)
-    parts true c e = absurd (cc e)
-    parts false c e = (refl, e)
-
+-- what conflicts with a read conflicts with all
 pub writes_all : (a b : Mode) → conflicts a Read ≡ true → conflicts a b ≡ true
 writes_all Read b e = absurd (cc e)
 writes_all Write Read e = refl
@@ -237,7 +230,7 @@ freed_over plan history queues j object mode c tied form asks = (to, from)
         free b in_line earlier false e g = e
         free b in_line earlier true e g =
             let stands = tied.stands object b in_line in
-            let says = open_write b e in
+            let says = holding_says Read b e in
             let over : ConflictOver plan b.entry c object = record { one = b.mode; other = g.over.other; asks_one = stands.0; asks_other = g.over.asks_other; conflicting = writes_all b.mode g.over.other says.1 } in
             let done : is_released (status_of history b.entry) ≡ true = g.ready.1 b.entry earlier (object, over) in
             absurd (cc (sym says.0 ∙ (stands.1 ∙ done)))
@@ -336,8 +329,8 @@ freed_became plan history j seat woken out (whole, list, names) = (
         released_waits : (s : Option Status) → is_out s ≡ true → next kind.Release seat s ≡ Some status.Waiting → ⊥
         released_waits (Some (status.Out at)) o w = cc w
         released_waits (Some status.Waiting) o w = cc o
-        released_waits (Some (status.Released at)) o w = cc w
-        released_waits None o w = cc o
+        released_waits (Some (status.Released at)) o w = cc o
+        released_waits None o w = cc w
 
     waits : (c : ℕ) → IsWaiting after c → IsWaiting history c
     waits c waiting = sym (status_other history kind.Release j seat c (other c waiting)) ∙ waiting

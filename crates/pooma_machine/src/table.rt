@@ -117,14 +117,6 @@ impl<W: Work> Table<W> {
         &self.history
     }
 
-    /// Where the entry stands.
-    pub(crate) fn status(&self, j: u32) -> Status
-        requires { j < length self.now.plan }
-        ensures { status_of self.now.history j ≡ Some result }
-    {
-        self.statuses[j as usize]
-    }
-
     /// Issues the next entry. Only want of memory refuses it, never while there is spare room; then all is as before, and the
     /// work is handed back.
     pub(crate) fn request(&mut self, seat: u32, work: Arc<W>) -> Result<u32, Arc<W>>

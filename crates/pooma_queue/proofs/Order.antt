@@ -1,8 +1,9 @@
 -- The requests of a queue before those of an entry stand at its beginning.
-use Rattle.std.proofs.Common.{◌≡◌, ◌+◌, ◌<◌, ◌≤◌, ℕ, suc, Bool, true, false, List, [], ◌∷◌, length, drop, get_or, find, None, refl, sym, ap, arith, inl, inr, ◌⊎◌, ◌-◌, nat_lt}
+use Rattle.std.proofs.Common.{◌≡◌, ◌≢◌, ◌+◌, ◌<◌, ◌≤◌, ℕ, suc, Bool, true, false, List, [], ◌∷◌, length, drop, get_or, find, None, refl, sym, ◌∙◌, ap, arith, inl, inr, ◌⊎◌, ◌-◌, nat_lt}
 use Rattle.std.proofs.lemmas.Bool.Decides.{leb_tells, eqb_tells}
 use Rattle.std.proofs.lemmas.List.{get_or-drop, length-drop}
-use Rattle.std.proofs.lemmas.List.Sums.{prefix_len_is}
+use Rattle.std.proofs.lemmas.List.Sums.{prefix_len_is, prefix_len_passes, prefix_len_stops}
+use Rattle.std.proofs.lemmas.List.Folds.{length-prefix_len}
 use Rattle.std.proofs.lemmas.List.Sorted.{IsPartitionedBy-ltb}
 use Rattle.std.specs.List.{prefix_len, take_while}
 use Rattle.std.specs.List.Sorted.{IsPartitionedBy, IsPartitionPoint}
@@ -63,3 +64,48 @@ holder_earlier (x ∷ xs) entry mode order =
         rw f.0 (sym (none_earlier xs entry mode (λ k d h.
         let above : x.entry < (get_or xs k d).entry = order 0 (suc k) d (omega arith) (omega arith) in
         omega (arith, f.1))))
+
+-- where the request behind those of earlier entries is of another entry, no request is of this one
+pub none_of : (requests : List Asked) (first place entry : ℕ) → IsInOrder requests → first ≤ length requests
+    → place ≡ first + length (take_while (λ asked. nat_lt asked.entry entry) (drop first requests))
+    → ((d : Asked) → place < length requests → (get_or requests place d).entry ≢ entry)
+    → (k : ℕ) (d : Asked) → first ≤ k → k < length requests → (get_or requests k d).entry ≢ entry
+none_of requests first place entry order le is other k d low within =
+    elim (leb_tells (suc k) place) [
+      | inl t ↦
+          let i : ℕ = k - first in
+          let passes = prefix_len_passes before rest i d (omega (arith, t.1, is, long)) in
+          let read : get_or rest i d ≡ get_or requests (first + i) d = get_or-drop first requests i d in
+          let same : first + i ≡ k = omega arith in
+          let earlier = earlier_at (get_or requests k d) (sym (ap before (read ∙ ap (λ n. get_or requests n d) same)) ∙ passes) in
+          λ e. absurd (omega (arith, earlier, e))
+      | inr f ↦ elim (eqb_tells k place) [
+        | inl same ↦ λ e. other d (omega (arith, same.1)) (sym (ap (λ n. (get_or requests n d).entry) same.1) ∙ e)
+        | inr further ↦
+            let there : place < k = omega (arith, f.1, further.1) in
+            let stops = prefix_len_stops before rest d (omega (arith, is, long, drops)) in
+            let read : get_or rest (prefix_len before rest) d ≡ get_or requests (first + prefix_len before rest) d = get_or-drop first requests (prefix_len before rest) d in
+            let same : first + prefix_len before rest ≡ place = omega (arith, is, long) in
+            let late = late_at (get_or requests place d) (sym (ap before (read ∙ ap (λ n. get_or requests n d) same)) ∙ stops) in
+            let above : (get_or requests place d).entry < (get_or requests k d).entry = order place k d there within in
+            λ e. absurd (omega (arith, late, above, e))
+      ]
+    ]
+  where
+    before : Asked → Bool
+    before asked = nat_lt asked.entry entry
+
+    rest : List Asked
+    rest = drop first requests
+
+    long : length (take_while before rest) ≡ prefix_len before rest
+    long = length-prefix_len before rest
+
+    drops : length rest ≡ length requests - first
+    drops = length-drop first requests
+
+    earlier_at : (a : Asked) → before a ≡ true → a.entry < entry
+    earlier_at a e = elim (leb_tells (suc a.entry) entry) [ inl t ↦ t.1 | inr f ↦ absurd (cc (sym f.0 ∙ e)) ]
+
+    late_at : (a : Asked) → before a ≡ false → entry ≤ a.entry
+    late_at a e = elim (leb_tells (suc a.entry) entry) [ inl t ↦ absurd (cc (sym t.0 ∙ e)) | inr f ↦ omega (arith, f.1) ]

@@ -109,15 +109,6 @@ impl Queue {
         self.requests.is_empty()
     }
 
-    /// The request at place `k`.
-    pub fn get(&self, k: usize) -> Asked
-        requires { k < length self.now.requests }
-        ensures asked { slice_get self.now.requests k ≡ Some result }
-        ensures order { IsInOrder self.now.requests }
-    {
-        self.requests[k]
-    }
-
     /// Puts the request of an entry behind the others, and answers its place. Only want of memory refuses it, never where
     /// there is room, and then the queue is as before.
     pub fn push(&mut self, entry: u32, mode: Mode) -> Result<usize, AllocError>
@@ -176,8 +167,8 @@ impl Queue {
         ensures requests { self.new.requests ≡ map (let_go entry) self.old.requests }
         ensures room { self.new.room ≡ self.old.room }
     {
-        let place = place_of(&self.requests, self.first, entry);
-        if place < self.requests.len() {
+        let place = self.first + earlier_than(&self.requests[self.first..], entry).len();
+        if place < self.requests.len() && self.requests[place].entry == entry {
             self.requests[place].released = true;
             self.first = first_open(&self.requests, self.first);
         }
@@ -206,7 +197,7 @@ fn first_held(earlier: &[Asked], mode: Mode) -> Option<u32>
         .map(|asked| asked.entry)
 }
 
-// The requests of the entries before this one.
+// The requests of the entries before this one: they stand in front of the others.
 fn earlier_than(requests: &[Asked], entry: u32) -> &[Asked]
     requires { IsInOrder requests.now }
     ensures { result.now ≡ take_while (λ asked. nat_lt asked.entry entry) requests.now }
@@ -231,20 +222,6 @@ fn open_write(requests: &[Asked]) -> Option<usize>
     requests
         .iter()
         .position(|asked| asked.holds_back(Mode::Read))
-}
-
-// The first place not below `from` with the request of this entry, or the end where there is none.
-fn place_of(requests: &[Asked], from: usize, entry: u32) -> usize
-    requires { from ≤ length requests.now }
-    ensures within { result ≤ length requests.now }
-    ensures found { (d : Asked) → result < length requests.now → (slice_index_or requests.now result d).entry ≡ entry }
-    ensures before { (k : ℕ) (d : Asked) → from ≤ k → k < result → (slice_index_or requests.now k d).entry ≢ entry }
-{
-    let mut place = from;
-    while place < requests.len() && requests[place].entry != entry {
-        place += 1;
-    }
-    place
 }
 
 // The first place not below `from` whose request was not released.
