@@ -4,7 +4,6 @@
 use command::Command;
 use measure::measure;
 use std::process::ExitCode;
-use std::rt::Env;
 use std::{env, io};
 use window::MOST_ENTRIES;
 
@@ -17,7 +16,7 @@ mod window;
 const USAGE: u8 = 2;
 
 fn main(rt: HostRuntime) -> io::Result<ExitCode> {
-    let words = words(&rt)?;
+    let words: Vec<String> = env::args(&rt)?.skip(1).collect(rt.alloc())?;
     let Some(Command::Machine { entries }) = Command::from_words(&words) else {
         eprintln!(rt;
             "usage: pooma_bench machine N, where N is a number from 1 to {MOST_ENTRIES}"
@@ -28,13 +27,4 @@ fn main(rt: HostRuntime) -> io::Result<ExitCode> {
     println!(rt; "{tally}")?;
     eprintln!(rt; "{times}")?;
     Ok(ExitCode::SUCCESS)
-}
-
-/// The words after the program's name.
-fn words<R: Env + AllocGlobal>(rt: &R) -> io::Result<Vec<String>> {
-    let mut words = Vec::new(rt.alloc());
-    for word in env::args(rt)?.skip(1) {
-        words.push(word)?;
-    }
-    Ok(words)
 }
