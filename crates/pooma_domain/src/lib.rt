@@ -12,6 +12,3 @@ pub use boxes::BoxN;
 pub use cells::Cell;
 pub use order::order_of_cells;
 pub use strides::Strided;
-
-#[cfg(test)]
-mod tests;

@@ -12,8 +12,6 @@ mod shelf;
 mod sink;
 mod source;
 mod sure;
-#[cfg(test)]
-mod tests;
 
 pub use adapter::{ReadSource, WriteSink};
 pub use memory::{MemorySink, MemorySource};

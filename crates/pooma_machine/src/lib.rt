@@ -18,6 +18,4 @@ mod machine;
 mod slot;
 mod step;
 mod table;
-#[cfg(test)]
-mod tests;
 mod work;

@@ -5,8 +5,6 @@
 
 mod arithmetic;
 mod fault;
-#[cfg(test)]
-mod tests;
 mod total;
 
 pub use arithmetic::{abs, add, div, mul, neg, rem, sub};

@@ -6,6 +6,10 @@ mod answers;
 #[cfg(test)]
 mod ends;
 #[cfg(test)]
+mod io;
+#[cfg(test)]
 mod refusals;
 #[cfg(test)]
 mod run;
+#[cfg(test)]
+mod text;

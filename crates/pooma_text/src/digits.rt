@@ -29,34 +29,3 @@ pub fn decimal(_alloc: Global, out: &mut Vec<u8>, value: i64) -> Result<(), Allo
     let mut buffer = Buffer::new();
     out.extend_from_slice(buffer.format(value).as_bytes())
 }
-
-#[cfg(test)]
-mod tests {
-    use super::*;
-    use std::test::Fail;
-
-    #[test]
-    fn numbers_up_to_the_greatest(rt: HostRuntime) {
-        assert_eq!(rt; number(b"0"), Some(0));
-        assert_eq!(rt; number(b"007"), Some(7));
-        assert_eq!(rt; number(b"9223372036854775807"), Some(i64::MAX));
-        assert_eq!(rt; number(b"9223372036854775808"), None);
-        assert_eq!(rt; number(b"0009223372036854775807"), Some(i64::MAX));
-        assert_eq!(rt; number(&[b'9'; 200]), None);
-        assert_eq!(rt; number(&[b'0'; 200]), Some(0));
-    }
-
-    #[test]
-    fn decimals_are_appended(rt: HostRuntime) -> Result<(), Fail> {
-        let mut out = Vec::new(rt.alloc());
-        for value in [i64::MIN, 0, i64::MAX] {
-            decimal(rt.alloc(), &mut out, value)?;
-            out.push(b' ')?;
-        }
-        assert_eq!(rt;
-            out.as_slice(),
-            b"-9223372036854775808 0 9223372036854775807 ".as_slice()
-        );
-        Ok(())
-    }
-}

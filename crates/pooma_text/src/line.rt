@@ -31,30 +31,3 @@ pub fn lines(alloc: Global, bytes: &[u8]) -> Result<Vec<Span>, AllocError>
     }
     Ok(spans)
 }
-
-#[cfg(test)]
-mod tests {
-    use super::*;
-    use std::test::Fail;
-
-    #[test]
-    fn lines_of_texts_with_and_without_a_last_line_end(rt: HostRuntime) -> Result<(), Fail> {
-        let texts: [(&[u8], &[(usize, usize)]); 6] = [
-            (b"", &[]),
-            (b"\n", &[(0, 0)]),
-            (b"a", &[(0, 1)]),
-            (b"a\n", &[(0, 1)]),
-            (b"\n\nab\r\n", &[(0, 0), (1, 1), (2, 5)]),
-            (b"print x\n# end", &[(0, 7), (8, 13)]),
-        ];
-        for (text, expected) in texts {
-            let spans = lines(rt.alloc(), text)?;
-            let mut places = Vec::new(rt.alloc());
-            for span in &spans {
-                places.push((span.start, span.end))?;
-            }
-            assert_eq!(rt; places.as_slice(), expected);
-        }
-        Ok(())
-    }
-}

@@ -7,6 +7,3 @@ mod views;
 
 pub use slots::Slot;
 pub use views::View;
-
-#[cfg(test)]
-mod tests;

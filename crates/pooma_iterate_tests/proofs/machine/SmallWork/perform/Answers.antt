@@ -1,5 +1,5 @@
 use Rattle.std.proofs.Common.{rules}
-use Rattle.pooma_machine.proofs.tests.SmallWork.perform.Goals as goal
+use Rattle.pooma_iterate_tests.proofs.machine.SmallWork.perform.Goals as goal
 
 pub returns-in-Some-write-clause-value : goal.returns-in-Some-write-clause-value
 returns-in-Some-write-clause-value c = rw c.in-Some-write.is (search rules)

@@ -4,7 +4,7 @@ use Rattle.std.proofs.lemmas.Int.{ints}
 use Rattle.pooma_domain.specs.Cells.{IsAxis}
 use Rattle.pooma_domain.proofs.PaddedBox.{box_of_one}
 use Rattle.pooma_view.specs.Slots.{places}
-use Rattle.pooma_view.proofs.tests.column_overlaps_row.Goals as goal
+use Rattle.pooma_value_tests.proofs.view.column_overlaps_row.Goals as goal
 
 pub overlaps-requires : goal.overlaps-requires
 overlaps-requires c =

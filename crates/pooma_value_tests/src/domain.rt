@@ -1,4 +1,4 @@
-use crate::{Axis, BoxN, Cell, Strided};
+use pooma_domain::{Axis, BoxN, Cell, Strided};
 use std::test::Fail;
 
 fn axis(first: i32, last: i32) -> Result<Axis, Fail> {

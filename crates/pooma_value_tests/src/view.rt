@@ -1,7 +1,7 @@
 ghost use Rattle.std.specs.Prelude.{◌≡◌, ◌^◌, ◌<◌, ◌≤◌};
 
-use crate::{Slot, View};
 use pooma_domain::{Axis, BoxN, Strided};
+use pooma_view::{Slot, View};
 use std::test::Fail;
 
 fn along(first: i32, last: i32, stride: i32) -> Result<Slot, Fail> {

@@ -1,7 +1,7 @@
 //! The edges of 64 bits, by values from outside.
 
-use crate::FaultKind::{Overflow, ZeroDivisor};
-use crate::{FaultKind, Total, abs, add, div, mul, neg, rem, sub};
+use pooma_num::FaultKind::{Overflow, ZeroDivisor};
+use pooma_num::{FaultKind, Total, abs, add, div, mul, neg, rem, sub};
 
 const LEAST: i64 = i64::MIN;
 

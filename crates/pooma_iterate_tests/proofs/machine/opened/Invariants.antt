@@ -1,5 +1,5 @@
 use Rattle.std.proofs.Common.{◌≡◌, length}
-use Rattle.pooma_machine.proofs.tests.opened.Given as goal
+use Rattle.pooma_iterate_tests.proofs.machine.opened.Given as goal
 
 abbrev pub invariant-loop : goal.invariant-loop
 invariant-loop l = length l.values.items ≡ l.counter

@@ -2,7 +2,7 @@
 //! tables.
 ghost use Rattle.std.specs.Prelude.{◌≤◌};
 
-use crate::{
+use pooma_io::{
     Failed, MemorySink, MemorySource, ReadAllError, ReadSource, Sink, Source, SureSink, SureSource,
     WriteSink, read_all,
 };

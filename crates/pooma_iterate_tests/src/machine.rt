@@ -1,6 +1,6 @@
 ghost use Rattle.std.specs.Prelude.{◌≡◌, ◌<◌, ◌+◌, ◌^◌, ◌++◌, ◌∷◌, [], IfOk, length, OnOk};
 
-use crate::{Became, DispatchError, Journal, ListJournal, Machine, Mode, Request, Work};
+use pooma_machine::{Became, DispatchError, Journal, ListJournal, Machine, Mode, Request, Work};
 use std::alloc::{AllocError, Global};
 use std::slice;
 use std::sync::Arc;

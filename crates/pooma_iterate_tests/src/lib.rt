@@ -1,0 +1,7 @@
+//! What queues and the iterate machine answer: worked examples and tables, one file for each crate under test.
+#![tactic(auto)]
+
+#[cfg(test)]
+mod machine;
+#[cfg(test)]
+mod queue;

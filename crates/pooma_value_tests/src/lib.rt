@@ -1,0 +1,9 @@
+//! What the calls on numbers, boxes and views answer: worked examples and tables, one file for each crate under test.
+#![tactic(auto)]
+
+#[cfg(test)]
+mod domain;
+#[cfg(test)]
+mod num;
+#[cfg(test)]
+mod view;
