@@ -1,10 +1,14 @@
 -- Operations on lists of axes are those on sets of cells.
 use Rattle.std.proofs.Common.{refl, sym, ap, ◌∙◌, subst, arith}
+use mathlib.Core.Path.{ap₂}
+use Rattle.std.proofs.lemmas.Bool.Decides.{same_from_decides, Decides-int_eq, Decides-and, Decides-like}
+use Rattle.std.specs.Bool.{Decides}
+use Rattle.std.specs.Cmp.Lexicographic.{pointwise, pointwise_decides}
 use Rattle.std.proofs.lemmas.Int.{ints, clamps}
-use Rattle.std.specs.Prelude.{◌≡◌, ◌↔◌, ℕ, zero, suc, ℤ, pos, ◌+ℤ◌, ◌-ℤ◌, ◌≤ℤ◌, ◌<ℤ◌, IfSome, Some, All, List, [], ◌∷◌, length, slice_get, slice_set}
+use Rattle.std.specs.Prelude.{◌≡◌, ◌↔◌, ℕ, zero, suc, ℤ, pos, ◌+ℤ◌, ◌-ℤ◌, ◌≤ℤ◌, ◌<ℤ◌, IfSome, Some, All, List, [], ◌∷◌, length, map, slice_get, slice_set, Bool, IsTrue}
 use Rattle.std.proofs.lemmas.List.Elements.{All-head, All-tail}
 use Rattle.std.specs.Int.{int_max, int_min}
-use Rattle.pooma_domain.specs.Cells.{Interval, interval, IsIn, IsOrdered}
+use Rattle.pooma_domain.specs.Cells.{Interval, interval, interval_eq, IsIn, IsOrdered}
 use Rattle.pooma_domain.specs.Operations.{common, common_axes, moved, shifted, reach, reaches, grown, grown_axis, IsMeeting, IsShifted, IsGrown, IsPart}
 
 abbrev pub Holds : Interval → ℤ → Type 0
@@ -16,6 +20,31 @@ common_both a b x h =
 
 both_common : (a b : Interval) (x : ℤ) → Holds a x → Holds b x → Holds (common a b) x
 both_common a b x h k = (omega (arith, ints, clamps), omega (arith, ints, clamps))
+
+by_corners : (a b : List Interval) → map (λ axis. axis.first) a ≡ map (λ axis. axis.first) b → map (λ axis. axis.last) a ≡ map (λ axis. axis.last) b → a ≡ b
+by_corners [] [] e f = refl
+by_corners [] (y ∷ ys) e f = cc
+by_corners (x ∷ xs) [] e f = cc
+by_corners (x ∷ xs) (y ∷ ys) e f =
+    let firsts : map (λ axis. axis.first) xs ≡ map (λ axis. axis.first) ys = cc in
+    let lasts : map (λ axis. axis.last) xs ≡ map (λ axis. axis.last) ys = cc in
+    let first : x.first ≡ y.first = cc in
+    let last : x.last ≡ y.last = cc in
+    ap₂ (λ v vs. v ∷ vs) (ap₂ interval first last) (by_corners xs ys firsts lasts)
+
+-- two boxes with one least cell are the same where their greatest cells are
+pub same_corners : (a b : List Interval) (la lb ga gb : List ℤ) → la ≡ map (λ axis. axis.first) a → lb ≡ map (λ axis. axis.first) b → ga ≡ map (λ axis. axis.last) a → gb ≡ map (λ axis. axis.last) b → la ≡ lb → (ga ≡ gb) ↔ (a ≡ b)
+same_corners a b la lb ga gb e f g h same =
+    (λ t. by_corners a b (sym e ∙ same ∙ f) (sym g ∙ t ∙ h), λ i. g ∙ ap (λ axes. map (λ axis. axis.last) axes) i ∙ sym h)
+
+Decides-interval_eq : (x y : Interval) → Decides (interval_eq x y) (x ≡ y)
+Decides-interval_eq x y =
+    Decides-like _ (λ h. ap₂ interval h.0 h.1) (λ e. (ap (λ (a : Interval). a.first) e, ap (λ (a : Interval). a.last) e))
+    (Decides-and _ _ (Decides-int_eq x.first y.first) (Decides-int_eq x.last y.last))
+
+-- a test that tells whether two boxes are the same one answers what the test axis by axis does
+pub same_axes : (r : Bool) (a b : List Interval) → (IsTrue r ↔ (a ≡ b)) → r ≡ pointwise interval_eq a b
+same_axes r a b h = same_from_decides r (pointwise interval_eq a b) h (pointwise_decides Decides-interval_eq a b)
 
 meeting_in_both : (a b : List Interval) (c : List ℤ) → length a ≡ length b → IsIn (common_axes a b) c → IsIn a c × IsIn b c
 meeting_in_both [] [] c e h = (h, h)

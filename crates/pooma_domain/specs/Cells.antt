@@ -1,5 +1,6 @@
 -- Cells, the boxes that are sets of them, and the order in which the first index is fastest.
-use Rattle.std.specs.Prelude.{◌≡◌, ◌⊎◌, ℕ, zero, suc, ◌^◌, ◌<◌, ◌≤◌, ℤ, pos, negsuc, neg_ℤ, ◌+ℤ◌, ◌-ℤ◌, ◌≤ℤ◌, ◌<ℤ◌, List, [], ◌∷◌, length, map, flat_map, All}
+use Rattle.std.specs.Prelude.{◌≡◌, ◌⊎◌, ℕ, zero, suc, ◌^◌, ◌<◌, ◌≤◌, ℤ, pos, negsuc, neg_ℤ, ◌+ℤ◌, ◌-ℤ◌, ◌≤ℤ◌, ◌<ℤ◌, List, [], ◌∷◌, length, map, flat_map, All, Bool, ◌&&◌}
+use Rattle.std.specs.Ordering.{int_eq}
 
 -- the whole numbers from a first to a last one, as an axis of a box has them; none where the last is below the first
 pub record Interval : Type 0 where
@@ -8,6 +9,10 @@ pub record Interval : Type 0 where
 
 abbrev pub interval : ℤ → ℤ → Interval
 interval first last = record { first = first; last = last }
+
+-- whether two axes have the same first and the same last number
+abbrev pub interval_eq : Interval → Interval → Bool
+interval_eq a b = int_eq a.first b.first && int_eq a.last b.last
 
 -- how many a whole number counts: none where it is negative
 abbrev pub count_of : ℤ → ℕ

@@ -154,6 +154,31 @@ impl Model for BoxN {
         ) };
 }
 
+impl PartialEq for BoxN {
+    ghost use Rattle.std.specs.Cmp.Lexicographic.{pointwise};
+    ghost use Rattle.std.specs.Cmp.{partial_equiv_from_equiv};
+    ghost use Rattle.std.proofs.lemmas.Cmp.{int_eq_equiv, on_equiv, and_equiv, lists_equiv};
+    ghost use Rattle.pooma_domain.specs.Cells.{interval_eq};
+
+    ghost eq = { pointwise interval_eq };
+
+    ghost laws = { partial_equiv_from_equiv (lists_equiv (and_equiv (on_equiv (λ a. a.first) int_eq_equiv) (on_equiv (λ a. a.last) int_eq_equiv))) };
+
+    /// Whether both have the same axes, and so the same cells.
+    fn eq(&self, other: &BoxN) -> bool
+        ensures answer { result ≡ pointwise interval_eq self.now other.now }
+        ensures same { IsTrue result ↔ (self.now ≡ other.now) }
+    {
+        self.least() == other.least() && self.greatest() == other.greatest()
+    }
+}
+
+impl Eq for BoxN {
+    ghost use Rattle.std.proofs.lemmas.Cmp.{int_eq_equiv, on_equiv, and_equiv, lists_equiv};
+
+    ghost laws = { lists_equiv (and_equiv (on_equiv (λ a. a.first) int_eq_equiv) (on_equiv (λ a. a.last) int_eq_equiv)) };
+}
+
 impl BoxN {
     /// The box of this one axis.
     pub fn of1(a: Axis) -> BoxN

@@ -38,6 +38,31 @@ impl Model for Cell {
     ) };
 }
 
+impl PartialEq for Cell {
+    ghost use Rattle.std.specs.Cmp.Lexicographic.{pointwise};
+    ghost use Rattle.std.specs.Ordering.{int_eq};
+    ghost use Rattle.std.proofs.lemmas.Cmp.{int_eq_equiv, lists_equiv};
+    ghost use Rattle.std.specs.Cmp.{partial_equiv_from_equiv};
+
+    ghost eq = { pointwise int_eq };
+
+    ghost laws = { partial_equiv_from_equiv (lists_equiv int_eq_equiv) };
+
+    /// Whether both have the same coordinates.
+    fn eq(&self, other: &Cell) -> bool
+        ensures answer { result ≡ pointwise int_eq self.now other.now }
+        ensures same { IsTrue result ↔ (self.now ≡ other.now) }
+    {
+        self.dims == other.dims && self.x == other.x && self.y == other.y && self.z == other.z
+    }
+}
+
+impl Eq for Cell {
+    ghost use Rattle.std.proofs.lemmas.Cmp.{int_eq_equiv, lists_equiv};
+
+    ghost laws = { lists_equiv int_eq_equiv };
+}
+
 impl Cell {
     /// The cell of no coordinates.
     pub fn none() -> Cell
@@ -147,12 +172,5 @@ impl Cell {
         ensures { result ≡ take 3 (self.now ++ pos 0 ∷ pos 0 ∷ pos 0 ∷ []) }
     {
         [self.x, self.y, self.z]
-    }
-
-    /// Whether both have the same coordinates.
-    pub fn is_same(&self, other: &Cell) -> bool
-        ensures { IsTrue result ↔ (self.now ≡ other.now) }
-    {
-        self.dims == other.dims && self.x == other.x && self.y == other.y && self.z == other.z
     }
 }

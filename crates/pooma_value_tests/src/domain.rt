@@ -39,7 +39,13 @@ fn corners_have_their_places(rt: HostRuntime) -> Result<(), Fail> {
         let corner = Cell::of3(a, b, c);
         assert!(rt; whole.contains(&corner));
         assert_eq!(rt; whole.place_of(&corner), place);
+        assert_eq!(rt; whole.cell_at(place), corner);
     }
+    assert_eq!(rt;
+        BoxN::of3(axis(-1, 1)?, axis(0, 3)?, axis(5, 6)?),
+        Some(whole)
+    );
+    assert!(rt; whole != BoxN::of2(axis(-1, 1)?, axis(0, 3)?));
     assert!(rt; !whole.contains(&Cell::of3(2, 0, 5)));
     assert!(rt; !whole.contains(&Cell::of2(0, 0)));
     Ok(())

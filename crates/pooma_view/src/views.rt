@@ -192,7 +192,7 @@ impl View {
         let Some(q) = target.position(&c) else {
             return true;
         };
-        p.is_same(&q)
+        p == q
     }
 
     // The same at both ends of the third axis.

@@ -23,11 +23,11 @@ returns-clause-same c t p q hp hq ep eq =
     let cell : c.front-c.result ≡ take (length c.args.self.now.slots) (c.args.x ∷ c.args.y ∷ c.args.z ∷ []) = c.front-c.ensures ∙ rw (x_is, y_is, z_is, dims) refl in
     let on_p : Some c.in-Some.p ≡ Some p = c.in-Some.ensures.only_one p hp (ep ∙ sym cell) in
     let on_q : Some c.in-Some-position.q ≡ Some q = c.in-Some-position.ensures.only_one q hq (eq ∙ sym cell) in
-    let same : c.in-Some.p ≡ c.in-Some-position.q = c.is_same.ensures.0 t in
+    let same : c.in-Some.p ≡ c.in-Some-position.q = c.eq.ensures.same.0 t in
     cc
 
 pub returns-clause-apart : goal.returns-clause-apart
 returns-clause-apart c =
     let on_p = c.in-Some.ensures.found in
     let on_q = c.in-Some-position.ensures.found in
-    by_test c.is_same.result c.is_same.ensures (λ ne. (c.in-Some.p, c.in-Some-position.q, on_p.0, on_q.0, ne, on_p.1 ∙ sym on_q.1))
+    by_test c.eq.result c.eq.ensures.same (λ ne. (c.in-Some.p, c.in-Some-position.q, on_p.0, on_q.0, ne, on_p.1 ∙ sym on_q.1))
