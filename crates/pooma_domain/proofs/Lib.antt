@@ -3,3 +3,4 @@ pub mod CellOrder
 pub mod PaddedBox
 pub mod PaddedMoves
 pub mod Striding
+pub mod Within

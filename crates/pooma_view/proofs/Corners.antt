@@ -1,5 +1,6 @@
 -- Two views that name the corners of their common cells at the same positions name all of them so.
 use Rattle.std.proofs.Common.{refl, sym, ap, ◌∙◌, inl, inr, arith, ⊎_elim, append_assoc}
+use mathlib.Core.Path.{ap₂}
 use Rattle.std.proofs.lemmas.Bool.{cases_order}
 use Rattle.std.proofs.lemmas.Int.{ints}
 use Rattle.std.specs.Prelude.{◌≡◌, ◌⊎◌, ◌<◌, ℤ, pos, negsuc, ◌+ℤ◌, ◌*ℤ◌, ◌≤ℤ◌, Some, List, [], ◌∷◌, ◌++◌, length, slice_get}
@@ -41,6 +42,26 @@ only_head (Along s) z w n m e =
     let m_is : w ≡ s.first +ℤ s.stride *ℤ pos m.0 = m.2 in
     let same : n.0 ≡ m.0 = same_place s.stride n.0 m.0 s.moves (omega (arith, ints, n_is, m_is, e)) in
     ap (λ k. pos k ∷ []) same
+
+only_empty : (p q : List ℤ) → IsIn [] p → IsIn [] q → p ≡ q
+only_empty [] [] h k = refl
+only_empty [] (x ∷ q) h k = absurd k
+only_empty (x ∷ p) q h k = absurd h
+
+-- positions that name one cell are the same
+pub apart : (slots : List Slot) (p q : List ℤ) → IsIn (positions_of slots) p → IsIn (positions_of slots) q → cell_named slots p ≡ cell_named slots q → p ≡ q
+apart [] p q h k e = only_empty p q h k
+apart (slot ∷ slots) p q h k e =
+    let a : Accepts slot p × IsIn (positions_of slots) (left_over slot p) = accepted slot (positions_of slots) p h in
+    let b : Accepts slot q × IsIn (positions_of slots) (left_over slot q) = accepted slot (positions_of slots) q k in
+    let here : coordinate slot p ≡ coordinate slot q = cc in
+    let there : cell_named slots (left_over slot p) ≡ cell_named slots (left_over slot q) = cc in
+    let i = taken_head slot (coordinate slot p) p a.0 refl in
+    let j = taken_head slot (coordinate slot q) q b.0 refl in
+    i.1
+    ∙ ap₂ (λ (u v : List ℤ). u ++ v) (only_head slot (coordinate slot p) (coordinate slot q) i.0 j.0 here)
+    (apart slots (left_over slot p) (left_over slot q) a.1 b.1 there)
+    ∙ sym j.1
 
 -- the element after a front, and one within a longer front
 after_front : (u p : List ℤ) (k : ℤ) → slice_get ((u ++ k ∷ []) ++ p) (length u) ≡ Some k

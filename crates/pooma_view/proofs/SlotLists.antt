@@ -25,6 +25,12 @@ joined (Fixed x) axes p h k = k
 joined (Along s) axes [] h k = absurd h
 joined (Along s) axes (i ∷ p) h k = (h.0, h.1, k)
 
+-- no more axes than slots
+pub few_axes : (slots : List Slot) → length (positions_of slots) ≤ length slots
+few_axes [] = omega arith
+few_axes (Fixed x ∷ slots) = omega (arith, few_axes slots)
+few_axes (Along s ∷ slots) = omega (arith, few_axes slots)
+
 -- the box of the later axes
 pub box_tail : (axis : Interval) (axes : List Interval) → IsBox (axis ∷ axes) → IsAxis axis × IsBox axes
 box_tail axis axes h =

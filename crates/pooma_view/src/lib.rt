@@ -2,8 +2,10 @@
 #![tactic(auto)]
 
 mod common;
+mod laws;
 mod slots;
 mod views;
 
+pub use laws::{cells_apart, positions_by_slots};
 pub use slots::Slot;
 pub use views::View;
