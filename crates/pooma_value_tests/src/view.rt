@@ -22,6 +22,8 @@ fn a_view_names_its_cells(rt: HostRuntime) -> Result<(), Fail> {
     let view = View::new(4, &[Slot::Fixed(2), along(5, 0, -2)?]);
     assert_eq!(rt; view.array(), 4);
     assert_eq!(rt; view.dims(), 2);
+    assert_eq!(rt; view, View::new(4, &[view.slot(0), view.slot(1)]));
+    assert!(rt; view != View::new(3, &[view.slot(0), view.slot(1)]));
     let inside = Axis::of(0, 9).ok_or("an axis")?;
     let narrow = Axis::of(0, 4).ok_or("an axis")?;
     assert!(rt; view.within(&BoxN::of2(inside, inside)));

@@ -6,3 +6,4 @@ pub mod Places
 pub mod Runs
 pub mod SlotLists
 pub mod Solutions
+pub mod Same

@@ -47,6 +47,32 @@ impl Model for View {
     ) };
 }
 
+impl PartialEq for View {
+    ghost use Rattle.std.specs.Cmp.Lexicographic.{pointwise};
+    ghost use Rattle.std.specs.Cmp.{partial_equiv_from_equiv};
+    ghost use Rattle.std.specs.Prelude.{nat_eq, ◌&&◌};
+    ghost use Rattle.std.proofs.lemmas.Cmp.{nat_eq_equiv, on_equiv, and_equiv, lists_equiv};
+    ghost use Rattle.pooma_view.specs.contracts.slots.SlotEq.TheImpl.Laws.{laws-law};
+
+    ghost eq = { λ a b. nat_eq a.array b.array && pointwise ⟦<Slot as PartialEq>⟧.eq a.slots b.slots };
+
+    ghost laws = { partial_equiv_from_equiv (and_equiv (on_equiv (λ v. v.array) nat_eq_equiv) (on_equiv (λ v. v.slots) (lists_equiv laws-law))) };
+
+    /// Whether both are views of one array by the same slots.
+    fn eq(&self, other: &View) -> bool
+        ensures answer { result ≡ (nat_eq self.now.array other.now.array && pointwise ⟦<Slot as PartialEq>⟧.eq self.now.slots other.now.slots) }
+        ensures same { IsTrue result ↔ (self.now ≡ other.now) }
+    {
+        if self.array != other.array {
+            return false;
+        }
+        if self.dims != other.dims {
+            return false;
+        }
+        [self.x, self.y, self.z] == [other.x, other.y, other.z]
+    }
+}
+
 impl View {
     ghost use Rattle.pooma_view.specs.Slots.{positions_of, cell_named, from_zero};
     ghost use Rattle.pooma_view.specs.Overlap.{NameApart, IsOverlap, AgreesAt, IsEnd};
