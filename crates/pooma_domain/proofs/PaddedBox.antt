@@ -1,8 +1,9 @@
 -- A box of three axes, of which those past its dims are 0:0, against the list of its axes.
-use Rattle.std.proofs.Common.{refl, sym, ap, ◌∙◌, subst, arith, lit≤}
+use Rattle.std.proofs.Common.{refl, sym, ap, ◌∙◌, subst, arith, lit≤, Fits}
 use Rattle.std.proofs.lemmas.Int.{ints}
 use Rattle.std.proofs.lemmas.List.Elements.{All-nil, All-cons, All-take}
 use Rattle.std.proofs.Math.Nat.{mul_comm, le-mul_of_pos_right, mod-eq_of_lt}
+use Rattle.std.specs.Int.{w64}
 use Rattle.std.specs.Prelude.{◌≡◌, ◌≢◌, ◌↔◌, ℕ, zero, suc, ◌+◌, ◌*◌, ◌/◌, ◌%◌, ◌^◌, ◌<◌, ◌≤◌, ℤ, pos, neg_ℤ, ◌+ℤ◌, ◌-ℤ◌, ◌≤ℤ◌, Some, List, [], ◌∷◌, length, slice_get, take}
 use Rattle.pooma_domain.specs.Cells.{Interval, count_of, axis_length, cells_of, IsIn, IsAxis, IsBox}
 use Rattle.pooma_domain.specs.Padding.{no_axis, IsPaddedBox, IsPaddedCell, length-padded}
@@ -189,23 +190,23 @@ padded_place d e x y z p q r a b u v w box cell h ea eb eu ev ew =
     subst Place same (rw (is, ← eu, ← ev, ← ew, ea, eb) refl)
 
 -- that sum and its steps fit
-pub padded_place_below : (d e : ℕ) (x y z : Interval) (p q r : ℤ) (a b u v w : ℕ) → IsPaddedBox d x y z → IsPaddedCell e p q r → IsIn (take d (x ∷ y ∷ z ∷ [])) (take e (p ∷ q ∷ r ∷ [])) → a ≡ axis_length x → b ≡ axis_length y → pos u ≡ p -ℤ x.first → pos v ≡ q -ℤ y.first → pos w ≡ r -ℤ z.first → (b * w < 2 ^ 63) × (v + b * w < 2 ^ 63) × (a * (v + b * w) < 2 ^ 63) × (u + a * (v + b * w) < 2 ^ 63)
-padded_place_below d e x y z p q r a b u v w box cell h ea eb eu ev ew =
+pub placed : (d e : ℕ) (x y z : Interval) (p q r : ℤ) (a b u v w : ℕ) → IsPaddedBox d x y z → IsPaddedCell e p q r → IsIn (take d (x ∷ y ∷ z ∷ [])) (take e (p ∷ q ∷ r ∷ [])) → a ≡ axis_length x → b ≡ axis_length y → pos u ≡ p -ℤ x.first → pos v ≡ q -ℤ y.first → pos w ≡ r -ℤ z.first → (u + a * (v + b * w) ≡ place (take d (x ∷ y ∷ z ∷ [])) (take e (p ∷ q ∷ r ∷ []))) × Fits w64 (b * w) × Fits w64 (v + b * w) × Fits w64 (a * (v + b * w)) × Fits w64 (u + a * (v + b * w))
+placed d e x y z p q r a b u v w box cell h ea eb eu ev ew =
     let axes : List Interval = take d (x ∷ y ∷ z ∷ []) in
     let cells : List ℤ = take e (p ∷ q ∷ r ∷ []) in
-    let below : place axes cells < length (cells_of axes) = place_below axes cells h in
+    let is : u + a * (v + b * w) ≡ place axes cells = padded_place d e x y z p q r a b u v w box cell h ea eb eu ev ew in
     let all : u + a * (v + b * w) < 2 ^ 63 =
-    omega (arith, below, padded_place d e x y z p q r a b u v w box cell h ea eb eu ev ew, (box_from_padded d x y z box).countable) in
+    let below : place axes cells < length (cells_of axes) = place_below axes cells h in
+    omega (arith, below, is, (box_from_padded d x y z box).countable) in
     let some : 0 < a = omega (arith, ints, ea, length_of_axis x box.x_axis, box.x_axis.ordered) in
     let wide : v + b * w ≤ (v + b * w) * a = le-mul_of_pos_right (v + b * w) some in
     let turned : (v + b * w) * a ≡ a * (v + b * w) = mul_comm (v + b * w) a in
-    (omega arith, omega arith, omega arith, all)
+    (is, omega arith, omega arith, omega arith, omega arith)
 
 -- the steps before the offset on the first axis is known
-pub padded_rounds_below : (d e : ℕ) (x y z : Interval) (p q r : ℤ) (b v w : ℕ) → IsPaddedBox d x y z → IsPaddedCell e p q r → IsIn (take d (x ∷ y ∷ z ∷ [])) (take e (p ∷ q ∷ r ∷ [])) → b ≡ axis_length y → pos v ≡ q -ℤ y.first → pos w ≡ r -ℤ z.first → (b * w < 2 ^ 63) × (v + b * w < 2 ^ 63)
-padded_rounds_below d e x y z p q r b v w box cell h eb ev ew =
+pub rounds_fit : (d e : ℕ) (x y z : Interval) (p q r : ℤ) (b v w : ℕ) → IsPaddedBox d x y z → IsPaddedCell e p q r → IsIn (take d (x ∷ y ∷ z ∷ [])) (take e (p ∷ q ∷ r ∷ [])) → b ≡ axis_length y → pos v ≡ q -ℤ y.first → pos w ≡ r -ℤ z.first → Fits w64 (b * w) × Fits w64 (v + b * w)
+rounds_fit d e x y z p q r b v w box cell h eb ev ew =
     let on_x : Holds x p = ((in_padded d e x y z p q r box cell).0 h).1 in
     let offset : pos (count_of (p -ℤ x.first)) ≡ p -ℤ x.first = count_of_from_zero (p -ℤ x.first) (omega (arith, ints, on_x.0)) in
-    let all : (b * w < 2 ^ 63) × (v + b * w < 2 ^ 63) × (axis_length x * (v + b * w) < 2 ^ 63) × (count_of (p -ℤ x.first) + axis_length x * (v + b * w) < 2 ^ 63) =
-    padded_place_below d e x y z p q r (axis_length x) b (count_of (p -ℤ x.first)) v w box cell h refl eb offset ev ew in
-    (all.0, all.1)
+    let all = placed d e x y z p q r (axis_length x) b (count_of (p -ℤ x.first)) v w box cell h refl eb offset ev ew in
+    (all.1, all.2)

@@ -1,11 +1,12 @@
 -- Which numbers of a strided axis are not past a last one.
-use Rattle.std.proofs.Common.{subst, refl, sym, ap, ◌∙◌, inl, inr, arith}
-use Rattle.std.proofs.lemmas.Int.{ints, by_lt_z}
-use Rattle.std.proofs.lemmas.Nat.{div-add-mod'}
+use Rattle.std.proofs.Common.{subst, refl, sym, ap, ◌∙◌, inl, inr, arith, to_z, of_z, ◌^◌, true, false, Fits}
+use Rattle.std.proofs.lemmas.Int.{ints, by_lt_z, to_z-of_z}
+use Rattle.std.proofs.lemmas.Nat.{div-add-mod', mul-le}
+use Rattle.std.specs.Int.Signed.{lt_z}
 use Rattle.std.proofs.Math.IntN.{pos-*ℤ-pos, negsuc-*ℤ-pos, *ℤ_comm, suc_ℤ-*ℤ, *ℤ-zero, +ℤ_idr, nat_abs}
-use Rattle.std.proofs.Math.Nat.{mul_comm, mul-le-mul_left, mul-div_left, le-div_iff_mul-le}
+use Rattle.std.proofs.Math.Nat.{mul_comm, mul-le-mul_left, mul-div_left, le-div_iff_mul-le, div-le_self}
 use Rattle.std.specs.Prelude.{◌≡◌, ◌≢◌, ◌↔◌, ◌⊎◌, ℕ, zero, suc, ◌+◌, ◌-◌, ◌*◌, ◌/◌, ◌%◌, ◌<◌, ◌≤◌, ℤ, pos, negsuc, neg_ℤ, ◌+ℤ◌, ◌-ℤ◌, ◌*ℤ◌, ◌≤ℤ◌, ◌<ℤ◌, FitsSigned, Some, length, slice_get}
-use Rattle.std.specs.Int.{w32}
+use Rattle.std.specs.Int.{w32, w64}
 use Rattle.pooma_domain.specs.Strides.{striding}
 use Rattle.pooma_domain.specs.Bounds.{IsBounded, IsNotPast}
 
@@ -87,6 +88,41 @@ is_ahead first last stride way u d moves =
     (λ some. up some (u some))
     (λ none. down (by_lt_z stride (pos 0) (λ below. below) (λ at_least. absurd (moves (omega (arith, ints))))) (d none))
 
+-- the same from the numbers as the code passes them on
+pub ahead_of : (first last stride way : ℤ) → FitsSigned w32 first → FitsSigned w32 last → FitsSigned w32 stride → (pos 0 <ℤ to_z w32 (of_z w32 stride) → way ≡ to_z w32 (of_z w32 last) -ℤ to_z w32 (of_z w32 first)) → (to_z w32 (of_z w32 stride) ≤ℤ pos 0 → way ≡ to_z w32 (of_z w32 first) -ℤ to_z w32 (of_z w32 last)) → stride ≢ pos 0 → IsAhead first last stride way
+ahead_of first last stride way f g h u d moves =
+    is_ahead first last stride way (simp to_z-of_z at u) (simp to_z-of_z at d) moves
+
+pub behind : (way : ℤ) → FitsSigned w64 way → lt_z (to_z w64 (of_z w64 way)) (pos 0) ≡ true → way <ℤ pos 0
+behind way f t = let t' : lt_z way (pos 0) ≡ true = simp to_z-of_z at t in grind (arith, ints)
+
+pub not_behind : (way : ℤ) → FitsSigned w64 way → lt_z (to_z w64 (of_z w64 way)) (pos 0) ≡ false → pos 0 ≤ℤ way
+not_behind way f t = let t' : lt_z way (pos 0) ≡ false = simp to_z-of_z at t in grind (arith, ints)
+
+pub unsigned_way : (way : ℤ) → FitsSigned w64 way → pos 0 ≤ℤ way → pos (nat_abs (to_z w64 (of_z w64 way))) ≡ way
+unsigned_way way f some = let is : to_z w64 (of_z w64 way) ≡ way = to_z-of_z w64 way f in rw is (omega (arith, ints))
+
+pub unsigned_step : (stride : ℤ) (u : ℕ) → FitsSigned w32 stride → u ≡ nat_abs (to_z w32 (of_z w32 stride)) → u ≡ nat_abs stride
+unsigned_step stride u f e = simp to_z-of_z at e
+
+-- a place on the way between two numbers of 32 bits
+pub place_fits : (first last stride way : ℤ) (w s : ℕ) → FitsSigned w32 first → FitsSigned w32 last → IsAhead first last stride way → pos w ≡ way → Fits w32 (w / s)
+place_fits first last stride way w s f g (up some e) h =
+    let small : w / s ≤ w = div-le_self w s in omega (arith, ints, f, g, e, h, small)
+place_fits first last stride way w s f g (down some e) h =
+    let small : w / s ≤ w = div-le_self w s in omega (arith, ints, f, g, e, h, small)
+
+-- the product of a stride and a count of 32 bits fits 64
+pub product_fits : (stride : ℤ) (k : ℕ) → FitsSigned w32 stride → k < 2 ^ 32 → FitsSigned w64 (stride *ℤ pos k)
+product_fits (pos s) k f h =
+    let product : pos s *ℤ pos k ≡ pos (s * k) = pos-*ℤ-pos s k in
+    let small : s * k ≤ 2147483648 * 4294967295 = mul-le s k 2147483648 4294967295 (omega (arith, ints, f)) (omega arith) in
+    rw product (omega (arith, ints, small))
+product_fits (negsuc s) k f h =
+    let product : negsuc s *ℤ pos k ≡ neg_ℤ (pos (suc s * k)) = negsuc-*ℤ-pos s k in
+    let small : suc s * k ≤ 2147483648 * 4294967295 = mul-le (suc s) k 2147483648 4294967295 (omega (arith, ints, f)) (omega arith) in
+    rw product (omega (arith, ints, small))
+
 -- the first number is not past the last one where the way is not negative
 pub first_not_past : (first last stride way : ℤ) → IsAhead first last stride way → pos 0 ≤ℤ way → IsNotPast stride last first
 first_not_past first last stride way (up some e) h = (λ _. omega (arith, ints, e, h), λ t. absurd (omega (arith, ints, some, t)))
@@ -110,6 +146,16 @@ fits_between first (negsuc s) k n h f g =
     let below : suc s * k ≤ suc s * n = mul-le-mul_left (suc s) h in
     let end : FitsSigned w32 (first +ℤ neg_ℤ (pos (suc s * n))) = rw (← there) g in
     rw here (omega (arith, ints, end, f, below))
+
+pub before_last : (k n : ℕ) → k < n → k ≤ n - 1
+before_last k n h = omega arith
+
+pub add_sub : (n : ℕ) → n + 1 - 1 ≡ n
+add_sub n = omega arith
+
+-- a number of 32 bits fits 64
+pub wide : (z : ℤ) → FitsSigned w32 z → FitsSigned w64 z
+wide z f = omega (arith, ints, f)
 
 one_more : (s : ℤ) (k : ℕ) → s *ℤ pos (suc k) ≡ s *ℤ pos k +ℤ s
 one_more s k = *ℤ_comm s (pos (suc k)) ∙ suc_ℤ-*ℤ (pos k) s ∙ ap (λ v. v +ℤ s) (*ℤ_comm (pos k) s)
