@@ -255,9 +255,6 @@ meet_makes d e x y z p q r a b x' y' z' box other ea eb same ex ey ez ox oy oz =
     let kept : take d (x' ∷ y' ∷ z' ∷ []) ≡ common_axes a b = rw (ex, ey, ez) is in
     (held, kept, common_cell a b same (subst (All IsOrdered) is all))
 
-pub axis_along : (a b : Interval) → IsAxis a → b.first ≡ a.first → b.last ≡ a.last → IsAxis b
-axis_along a b h e f = subst IsAxis (sym (same_interval b a e f)) h
-
 -- each axis of a box has a number
 pub ordered_box : (d : ℕ) (x y z : Interval) (axes : List Interval) → IsPaddedBox d x y z → take d (x ∷ y ∷ z ∷ []) ≡ axes → All IsOrdered axes
 ordered_box d x y z axes box e =

@@ -1,16 +1,21 @@
 -- The corners of what two views of three slots share.
-use Rattle.std.proofs.Common.{refl, sym, ap, ◌∙◌, subst, inl, inr, arith, lit≤}
+use Rattle.std.proofs.Common.{refl, sym, ap, ◌∙◌, subst, inl, inr, arith, lit≤, to_z, of_z, w32, FitsSigned}
+use Rattle.std.proofs.lemmas.Int.{to_z-of_z}
 use Rattle.std.proofs.lemmas.Bool.{false≢true}
 use Rattle.std.specs.Prelude.{◌≡◌, ◌↔◌, ◌⊎◌, ℕ, zero, suc, ◌≤◌, ℤ, List, [], ◌∷◌, length, take, Bool, true, false, not, IsTrue}
 use Rattle.pooma_domain.specs.Cells.{IsIn}
 use Rattle.pooma_domain.specs.Padding.{length-padded}
 use Rattle.pooma_view.specs.Common.{NamesNumber}
-use Rattle.pooma_view.specs.Overlap.{NameApart, AgreesAt, IsEnd}
+use Rattle.pooma_view.specs.Overlap.{NameApart, IsOverlap, AgreesAt, IsEnd}
 use Rattle.pooma_view.specs.Slots.{positions_of, coordinate, left_over, cell_named, Accepts}
-use Rattle.pooma_view.specs.Views.{IsPaddedView}
+use Rattle.pooma_view.specs.Views.{Viewed, IsPaddedView}
 use Rattle.pooma_view.specs.declared.slots.Slot.{Slot}
-use Rattle.pooma_view.proofs.SlotLists.{cell-three, TakesApart, taken_apart, length_of_named}
+use Rattle.pooma_view.proofs.SlotLists.{cell-three, TakesApart, taken_apart}
 use Rattle.pooma_view.proofs.Corners.{AreEnds, AllEnds, IsCorner, Agree, taken_head, corners_tell}
+
+-- as many axes as slots
+pub dims_are : (d : ℕ) (x y z : Slot) (slots : List Slot) → IsPaddedView d x y z → take d (x ∷ y ∷ z ∷ []) ≡ slots → d ≡ length slots
+dims_are d x y z slots v e = sym (length-padded d x y z v.few) ∙ ap length e
 
 -- what a slot names is named by it
 names_of : (slot : Slot) (p : List ℤ) → Accepts slot p → NamesNumber slot (coordinate slot p)
@@ -36,7 +41,7 @@ same_three (suc (suc zero)) a b e a' b' e' some few nb ne h = (cc, cc, ne (lit�
 same_three (suc (suc (suc zero))) a b e a' b' e' some few nb ne h = (cc, cc, cc)
 same_three (suc (suc (suc (suc d)))) a b e a' b' e' some few nb ne h = absurd (omega arith)
 
-pub shares_three : (d : ℕ) (x y z x' y' z' : Slot) (rs ts : List Slot) (p q : List ℤ) → IsPaddedView d x y z → IsPaddedView d x' y' z' → take d (x ∷ y ∷ z ∷ []) ≡ rs → take d (x' ∷ y' ∷ z' ∷ []) ≡ ts → IsIn (positions_of rs) p → IsIn (positions_of ts) q → cell_named rs p ≡ cell_named ts q → SharesThree x y z x' y' z'
+shares_three : (d : ℕ) (x y z x' y' z' : Slot) (rs ts : List Slot) (p q : List ℤ) → IsPaddedView d x y z → IsPaddedView d x' y' z' → take d (x ∷ y ∷ z ∷ []) ≡ rs → take d (x' ∷ y' ∷ z' ∷ []) ≡ ts → IsIn (positions_of rs) p → IsIn (positions_of ts) q → cell_named rs p ≡ cell_named ts q → SharesThree x y z x' y' z'
 shares_three d x y z x' y' z' rs ts p q v v' er et hp hq same =
     let a : TakesApart x y z p = taken_apart d x y z rs p v er hp in
     let b : TakesApart x' y' z' q = taken_apart d x' y' z' ts q v' et hq in
@@ -59,8 +64,11 @@ shares_three d x y z x' y' z' rs ts p q v v' er et hp hq same =
       by_z' = subst (NamesNumber z') (sym all.2) (names_of z' (left_over y' (left_over x' q)) b.by_z);
     }
 
-pub same_number : (rs ts : List Slot) (p q : List ℤ) → cell_named rs p ≡ cell_named ts q → length rs ≡ length ts
-same_number rs ts p q e = sym (length_of_named rs p) ∙ ap length e ∙ length_of_named ts q
+-- the same for two views of one number of axes, of which one overlaps the other
+pub shared : (a b d d' : ℕ) (x y z x' y' z' : Slot) (v w : Viewed) → d ≡ d' → IsPaddedView d x y z → IsPaddedView d' x' y' z' → record { array = a; slots = take d (x ∷ y ∷ z ∷ []) } ≡ v → record { array = b; slots = take d' (x' ∷ y' ∷ z' ∷ []) } ≡ w → IsOverlap v w → SharesThree x y z x' y' z'
+shared a b d d' x y z x' y' z' v w dims h k ev ew o =
+    shares_three d x y z x' y' z' v.slots w.slots o.1.0 o.1.1 h (subst (λ (n : ℕ). IsPaddedView n x' y' z') (sym dims) k) (ap (λ (u : Viewed). u.slots) ev)
+    (ap (λ (n : ℕ). take n (x' ∷ y' ∷ z' ∷ [])) dims ∙ ap (λ (u : Viewed). u.slots) ew) o.1.2 o.1.3 o.1.5
 
 all_ends : (d : ℕ) (x y z x' y' z' : Slot) (a b e f g h : ℤ) → d ≤ 3 → AreEnds x x' a f → AreEnds y y' b g → AreEnds z z' e h → AllEnds (take d (x ∷ y ∷ z ∷ [])) (take d (x' ∷ y' ∷ z' ∷ [])) (take d (a ∷ b ∷ e ∷ [])) (take d (f ∷ g ∷ h ∷ []))
 all_ends zero x y z x' y' z' a b e f g h few ex ey ez = tt
@@ -88,7 +96,7 @@ corner_three (suc (suc (suc zero))) a b e f g h (x ∷ y ∷ z ∷ w ∷ c) few 
 corner_three (suc (suc (suc (suc d)))) a b e f g h c few t = absurd (omega arith)
 
 -- views that agree at all corners name no cell apart
-pub corners_agree : (d : ℕ) (x y z x' y' z' : Slot) (rs ts : List Slot) (a b e f g h : ℤ) → d ≤ 3 → take d (x ∷ y ∷ z ∷ []) ≡ rs → take d (x' ∷ y' ∷ z' ∷ []) ≡ ts → AreEnds x x' a f → AreEnds y y' b g → AreEnds z z' e h → ((i j k : ℤ) → IsEnd a f i → IsEnd b g j → IsEnd e h k → AgreesAt rs ts (take d (i ∷ j ∷ k ∷ []))) → NameApart rs ts → ⊥
+corners_agree : (d : ℕ) (x y z x' y' z' : Slot) (rs ts : List Slot) (a b e f g h : ℤ) → d ≤ 3 → take d (x ∷ y ∷ z ∷ []) ≡ rs → take d (x' ∷ y' ∷ z' ∷ []) ≡ ts → AreEnds x x' a f → AreEnds y y' b g → AreEnds z z' e h → ((i j k : ℤ) → IsEnd a f i → IsEnd b g j → IsEnd e h k → AgreesAt rs ts (take d (i ∷ j ∷ k ∷ []))) → NameApart rs ts → ⊥
 corners_agree d x y z x' y' z' rs ts a b e f g h few er et ex ey ez all apart =
     let Ends : List Slot → List Slot → Type 0 = λ s t. AllEnds s t (take d (a ∷ b ∷ e ∷ [])) (take d (f ∷ g ∷ h ∷ [])) in
     let ends : Ends (take d (x ∷ y ∷ z ∷ [])) (take d (x' ∷ y' ∷ z' ∷ [])) = all_ends d x y z x' y' z' a b e f g h few ex ey ez in
@@ -101,6 +109,14 @@ corners_agree d x y z x' y' z' rs ts a b e f g h few er et ex ey ez all apart =
     subst (λ (w : List ℤ). Agree [] [] rs ts w) (sym corner.6) (all corner.0 corner.1 corner.2 corner.3 corner.4 corner.5))
     (cell_named ts apart.1) apart.0 apart.1 apart.2 apart.3 apart.5 refl)
 
+-- the same for two views of one number of axes
+pub no_overlap : (m n d d' : ℕ) (x y z x' y' z' : Slot) (v w : Viewed) (a b e f g h : ℤ) → d ≡ d' → IsPaddedView d x y z → record { array = m; slots = take d (x ∷ y ∷ z ∷ []) } ≡ v → record { array = n; slots = take d' (x' ∷ y' ∷ z' ∷ []) } ≡ w → AreEnds x x' a f → AreEnds y y' b g → AreEnds z z' e h → ((i j k : ℤ) → IsEnd a f i → IsEnd b g j → IsEnd e h k → AgreesAt v.slots w.slots (take (length v.slots) (i ∷ j ∷ k ∷ []))) → IsOverlap v w → ⊥
+no_overlap m n d d' x y z x' y' z' v w a b e f g h dims padded ev ew ex ey ez all o =
+    let is : take d (x ∷ y ∷ z ∷ []) ≡ v.slots = ap (λ (u : Viewed). u.slots) ev in
+    corners_agree d x y z x' y' z' v.slots w.slots a b e f g h padded.few is (ap (λ (n : ℕ). take n (x' ∷ y' ∷ z' ∷ [])) dims ∙ ap (λ (u : Viewed). u.slots) ew) ex ey ez
+    (λ i j k ei ej ek. subst (λ (n : ℕ). AgreesAt v.slots w.slots (take n (i ∷ j ∷ k ∷ []))) (sym (dims_are d x y z v.slots padded is)) (all i j k ei ej ek))
+    o.1
+
 -- a number that is one of two
 pub at_either : (low high : ℤ) (P : ℤ → Type 0) → P low → P high → (x : ℤ) → IsEnd low high x → P x
 at_either low high P l h x (inl e) = subst P (sym e) l
@@ -111,13 +127,10 @@ pub by_test : {A B : Type 0} (r : Bool) → (IsTrue r ↔ A) → ((A → ⊥) �
 by_test true f g = inl refl
 by_test false f g = inr (g (λ a. false≢true (f.1 a)))
 
--- two tests, of which the first decides alone where it fails
-pub dims_are : (d : ℕ) (x y z : Slot) (slots : List Slot) → IsPaddedView d x y z → take d (x ∷ y ∷ z ∷ []) ≡ slots → d ≡ length slots
-dims_are d x y z slots v e = sym (length-padded d x y z v.few) ∙ ap length e
-
--- three coordinates, as they are passed on
-pub agrees_same : (rs ts : List Slot) (n : ℕ) (a b e a' b' e' : ℤ) → AgreesAt rs ts (take n (a ∷ b ∷ e ∷ [])) → a ≡ a' → b ≡ b' → e ≡ e' → AgreesAt rs ts (take n (a' ∷ b' ∷ e' ∷ []))
-agrees_same rs ts n a b e a' b' e' h ea eb ee = rw (← ea, ← eb, ← ee) h
+-- three coordinates of a cell, as the code passes them on
+pub passed_on : (d : ℕ) (x y z : Slot) (slots : List Slot) (cell : List ℤ) (a b e : ℤ) → FitsSigned w32 a → FitsSigned w32 b → FitsSigned w32 e → IsPaddedView d x y z → take d (x ∷ y ∷ z ∷ []) ≡ slots → cell ≡ take d (to_z w32 (of_z w32 a) ∷ to_z w32 (of_z w32 b) ∷ to_z w32 (of_z w32 e) ∷ []) → cell ≡ take (length slots) (a ∷ b ∷ e ∷ [])
+passed_on d x y z slots cell a b e fa fb fe v is made =
+    made ∙ rw (to_z-of_z w32 a fa, to_z-of_z w32 b fb, to_z-of_z w32 e fe, dims_are d x y z slots v is) refl
 
 pub not_true : (r : Bool) → (IsTrue r → ⊥) → IsTrue (not r)
 not_true true f = absurd (f refl)

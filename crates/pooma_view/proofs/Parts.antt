@@ -1,6 +1,6 @@
 -- All cells of a view lie between those at its first and last places; and a view at the places of a box.
-use Rattle.std.proofs.Common.{refl, sym, ap, ◌∙◌, subst, arith}
-use Rattle.std.proofs.lemmas.Int.{ints}
+use Rattle.std.proofs.Common.{refl, sym, ap, ◌∙◌, subst, arith, to_z, of_z, w32, FitsSigned}
+use Rattle.std.proofs.lemmas.Int.{ints, to_z-of_z}
 use Rattle.std.proofs.Math.IntN.{*ℤ-zero, +ℤ_idr}
 use Rattle.std.specs.Prelude.{◌≡◌, ◌↔◌, ℕ, zero, suc, ◌-◌, ◌<◌, ℤ, pos, negsuc, Some, ◌+ℤ◌, ◌-ℤ◌, ◌*ℤ◌, ◌≤ℤ◌, List, [], ◌∷◌, map, take, slice_get}
 use Rattle.pooma_domain.specs.Cells.{Interval, interval, IsIn}
@@ -96,11 +96,15 @@ map-three f (suc (suc (suc zero))) x y z = refl
 map-three f (suc (suc (suc (suc d)))) x y z = refl
 
 -- whether all cells of a view lie in a box is told by the two
+pub first_within : (slots : List Slot) (axes : List Interval) (u : List ℤ) → u ≡ map first_named slots → ((p : List ℤ) → IsIn (positions_of slots) p → IsIn axes (cell_named slots p)) → IsIn axes u
+first_within slots axes u e h =
+    subst (IsIn axes) ((first_position_is slots).1 ∙ sym e) (h (first_position slots) (first_position_is slots).0)
+
 pub ends_tell : (slots : List Slot) (axes : List Interval) (u v : List ℤ) → u ≡ map first_named slots → v ≡ map last_named slots → (IsIn axes u × IsIn axes v) ↔ ((p : List ℤ) → IsIn (positions_of slots) p → IsIn axes (cell_named slots p))
 ends_tell slots axes u v eu ev = (
   λ h p q. named_within axes slots p (subst (IsIn axes) eu h.0) (subst (IsIn axes) ev h.1) q,
   λ h. (
-    subst (IsIn axes) ((first_position_is slots).1 ∙ sym eu) (h (first_position slots) (first_position_is slots).0),
+    first_within slots axes u eu h,
     subst (IsIn axes) ((last_position_is slots).1 ∙ sym ev) (h (last_position slots) (last_position_is slots).0),
   ),
 )
@@ -182,7 +186,7 @@ within_corners d x y z slots axes least greatest v e inside el hl eg hg =
     (subst (IsIn (positions_of slots)) el (inside least hl))
     (subst (IsIn (positions_of slots)) eg (inside greatest hg))
 
-pub restricted_view : (d : ℕ) (x y z x' y' z' : Slot) (axes : List Interval) → IsPaddedView d x y z → WithinThree x y z axes → IsRestricted x x' axes → IsRestricted y y' (left_over x axes) → IsRestricted z z' (left_over y (left_over x axes)) → IsPaddedView d x' y' z'
+restricted_view : (d : ℕ) (x y z x' y' z' : Slot) (axes : List Interval) → IsPaddedView d x y z → WithinThree x y z axes → IsRestricted x x' axes → IsRestricted y y' (left_over x axes) → IsRestricted z z' (left_over y (left_over x axes)) → IsPaddedView d x' y' z'
 restricted_view d x y z x' y' z' axes v w rx ry rz = record {
   some = v.some;
   few = v.few;
@@ -190,29 +194,39 @@ restricted_view d x y z x' y' z' axes v w rx ry rz = record {
   no_z = λ h. restricted_none z' (left_over y (left_over x axes)) (subst (λ (s : Slot). IsRestricted s z' (left_over y (left_over x axes))) (v.no_z h) rz);
 }
 
-pub restricted_positions : (d : ℕ) (x y z x' y' z' : Slot) (axes : List Interval) → IsPaddedView d x y z → WithinThree x y z axes → IsRestricted x x' axes → IsRestricted y y' (left_over x axes) → IsRestricted z z' (left_over y (left_over x axes)) → positions_of (take d (x' ∷ y' ∷ z' ∷ [])) ≡ from_zero axes
-restricted_positions d x y z x' y' z' axes v w rx ry rz =
-    positions-three d x' y' z' (restricted_view d x y z x' y' z' axes v w rx ry rz)
-    ∙ restricted_places x x' axes (with_places y' (with_places z' [])) w.by_x rx
-    (restricted_places y y' (left_over x axes) (with_places z' []) w.by_y ry
-    (restricted_places z z' (left_over y (left_over x axes)) [] w.by_z rz (sym (ap from_zero w.whole))))
+-- what the three restricted slots are kept as, and name
+pub record IsRestrictedView (d : ℕ) (x' y' z' : Slot) (slots : List Slot) (axes : List Interval) : Type 0 where
+  pub kept : IsPaddedView d x' y' z'
+  pub positions : positions_of (take d (x' ∷ y' ∷ z' ∷ [])) ≡ from_zero axes
+  pub cells : (p : List ℤ) → IsIn (from_zero axes) p → cell_named (take d (x' ∷ y' ∷ z' ∷ [])) p ≡ cell_named slots (moved p (map (λ (a : Interval). a.first) axes))
 
-pub restricted_cells : (d : ℕ) (x y z x' y' z' : Slot) (slots : List Slot) (axes : List Interval) → IsPaddedView d x y z → take d (x ∷ y ∷ z ∷ []) ≡ slots → WithinThree x y z axes → IsRestricted x x' axes → IsRestricted y y' (left_over x axes) → IsRestricted z z' (left_over y (left_over x axes)) → (p : List ℤ) → IsIn (from_zero axes) p → cell_named (take d (x' ∷ y' ∷ z' ∷ [])) p ≡ cell_named slots (moved p (map (λ (a : Interval). a.first) axes))
-restricted_cells d x y z x' y' z' slots axes v e w rx ry rz p q =
-    let a = restricted_cell x x' axes p w.by_x rx q in
-    let b = restricted_cell y y' (left_over x axes) (left_over x' p) w.by_y ry a.2 in
-    let c = restricted_cell z z' (left_over y (left_over x axes)) (left_over y' (left_over x' p)) w.by_z rz b.2 in
-    let on_y : coordinate y' (left_over x' p) ≡ coordinate y (left_over x (moved p (map (λ (i : Interval). i.first) axes))) =
-    b.0 ∙ ap (coordinate y) (sym a.1) in
-    let left_y : left_over y (left_over x (moved p (map (λ (i : Interval). i.first) axes))) ≡ moved (left_over y' (left_over x' p)) (map (λ (i : Interval). i.first) (left_over y (left_over x axes))) =
-    ap (left_over y) a.1 ∙ b.1 in
-    let on_z : coordinate z' (left_over y' (left_over x' p)) ≡ coordinate z (left_over y (left_over x (moved p (map (λ (i : Interval). i.first) axes)))) =
-    c.0 ∙ ap (coordinate z) (sym left_y) in
-    cell-three d x' y' z' p (restricted_view d x y z x' y' z' axes v w rx ry rz)
-    ∙ rw (a.0, on_y, on_z) (sym (cell-three d x y z (moved p (map (λ (i : Interval). i.first) axes)) v))
-    ∙ ap (λ (s : List Slot). cell_named s (moved p (map (λ (i : Interval). i.first) axes))) e
+pub restricted : (d : ℕ) (x y z x' y' z' : Slot) (slots : List Slot) (axes after_x after_y : List Interval) → IsPaddedView d x y z → take d (x ∷ y ∷ z ∷ []) ≡ slots → WithinThree x y z axes → after_x ≡ left_over x axes → after_y ≡ left_over y after_x → IsRestricted x x' axes → IsRestricted y y' after_x → IsRestricted z z' after_y → IsRestrictedView d x' y' z' slots axes
+restricted d x y z x' y' z' slots axes after_x after_y v e w ex ey rx ry' rz' =
+    let ry : IsRestricted y y' (left_over x axes) = subst (IsRestricted y y') ex ry' in
+    let rz : IsRestricted z z' (left_over y (left_over x axes)) = subst (IsRestricted z z') (ey ∙ ap (left_over y) ex) rz' in
+    let new : IsPaddedView d x' y' z' = restricted_view d x y z x' y' z' axes v w rx ry rz in
+    record {
+      kept = new;
+      positions = positions-three d x' y' z' new
+          ∙ restricted_places x x' axes (with_places y' (with_places z' [])) w.by_x rx
+          (restricted_places y y' (left_over x axes) (with_places z' []) w.by_y ry
+          (restricted_places z z' (left_over y (left_over x axes)) [] w.by_z rz (sym (ap from_zero w.whole))));
+      cells = λ p q.
+          let a = restricted_cell x x' axes p w.by_x rx q in
+          let b = restricted_cell y y' (left_over x axes) (left_over x' p) w.by_y ry a.2 in
+          let c = restricted_cell z z' (left_over y (left_over x axes)) (left_over y' (left_over x' p)) w.by_z rz b.2 in
+          let on_y : coordinate y' (left_over x' p) ≡ coordinate y (left_over x (moved p (map (λ (i : Interval). i.first) axes))) =
+          b.0 ∙ ap (coordinate y) (sym a.1) in
+          let left_y : left_over y (left_over x (moved p (map (λ (i : Interval). i.first) axes))) ≡ moved (left_over y' (left_over x' p)) (map (λ (i : Interval). i.first) (left_over y (left_over x axes))) =
+          ap (left_over y) a.1 ∙ b.1 in
+          let on_z : coordinate z' (left_over y' (left_over x' p)) ≡ coordinate z (left_over y (left_over x (moved p (map (λ (i : Interval). i.first) axes)))) =
+          c.0 ∙ ap (coordinate z) (sym left_y) in
+          cell-three d x' y' z' p new
+          ∙ rw (a.0, on_y, on_z) (sym (cell-three d x y z (moved p (map (λ (i : Interval). i.first) axes)) v))
+          ∙ ap (λ (s : List Slot). cell_named s (moved p (map (λ (i : Interval). i.first) axes))) e;
+    }
 
--- a cell made of one end of each of three slots
-pub ends_are : (f : Slot → ℤ) → (d : ℕ) (x y z : Slot) (slots : List Slot) (cell : List ℤ) (a b e : ℤ) → cell ≡ take d (a ∷ b ∷ e ∷ []) → a ≡ f x → b ≡ f y → e ≡ f z → take d (x ∷ y ∷ z ∷ []) ≡ slots → cell ≡ map f slots
-ends_are f d x y z slots cell a b e is ea eb ee whole =
-    is ∙ rw (ea, eb, ee) (sym (map-three f d x y z)) ∙ ap (map f) whole
+-- a cell made of one end of each of three slots, as the code passes them on
+pub ends_are : (f : Slot → ℤ) → (d : ℕ) (x y z : Slot) (slots : List Slot) (cell : List ℤ) (a b e : ℤ) → FitsSigned w32 a → FitsSigned w32 b → FitsSigned w32 e → cell ≡ take d (to_z w32 (of_z w32 a) ∷ to_z w32 (of_z w32 b) ∷ to_z w32 (of_z w32 e) ∷ []) → a ≡ f x → b ≡ f y → e ≡ f z → take d (x ∷ y ∷ z ∷ []) ≡ slots → cell ≡ map f slots
+ends_are f d x y z slots cell a b e fa fb fe is ea eb ee whole =
+    is ∙ rw (to_z-of_z w32 a fa, to_z-of_z w32 b fb, to_z-of_z w32 e fe, ea, eb, ee) (sym (map-three f d x y z)) ∙ ap (map f) whole

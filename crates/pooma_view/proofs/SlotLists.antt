@@ -1,10 +1,12 @@
 -- Positions and cells of a list of slots, slot by slot, and of three slots.
-use Rattle.std.proofs.Common.{refl, sym, ap, ◌∙◌, subst, arith, lit≤}
-use Rattle.std.proofs.lemmas.Int.{ints}
+use Rattle.std.proofs.Common.{refl, sym, ap, ◌∙◌, subst, arith, lit≤, to_z, of_z, w32, Fits, FitsSigned}
+use Rattle.std.proofs.lemmas.Int.{ints, to_z-of_z}
 use Rattle.std.proofs.lemmas.List.Elements.{All-head, All-tail}
 use Rattle.std.proofs.Math.Nat.{le-mul_of_pos_right, mul-le-mul_left, mul_comm}
-use Rattle.std.proofs.Math.IntN.{pos-*ℤ-pos, negsuc-*ℤ-pos}
-use Rattle.std.specs.Prelude.{◌≡◌, ℕ, zero, suc, ◌+◌, ◌*◌, ◌<◌, ◌≤◌, ℤ, pos, negsuc, neg_ℤ, Some, ◌+ℤ◌, ◌*ℤ◌, ◌≤ℤ◌, List, [], ◌∷◌, ◌++◌, length, take, slice_index_or, Option, None, IfSome}
+use Rattle.std.proofs.Math.IntN.{pos-*ℤ-pos, negsuc-*ℤ-pos, nat_abs}
+use Rattle.std.specs.Int.Signed.{non_neg}
+use lib.Dec.{T}
+use Rattle.std.specs.Prelude.{◌≡◌, ℕ, zero, suc, ◌+◌, ◌*◌, ◌<◌, ◌≤◌, ℤ, pos, negsuc, neg_ℤ, Some, ◌+ℤ◌, ◌*ℤ◌, ◌≤ℤ◌, List, [], ◌∷◌, ◌++◌, length, take, slice_index_or, slice_get, ◌-ℤ◌, Option, None, IfSome}
 use Rattle.pooma_domain.specs.Cells.{Interval, axis_length, cells_of, IsIn, IsAxis, IsBox}
 use Rattle.pooma_domain.specs.declared.strides.Strided.{Strided}
 use Rattle.pooma_domain.proofs.CellOrder.{length-cells_of}
@@ -120,6 +122,37 @@ only_place s x n later (pos m ∷ p) only a e f =
     rw (same, ← f) refl
 only_place s x n later (negsuc m ∷ p) only a e f = absurd (omega (arith, ints, a.0))
 
+pub no_place : (s : Strided) (x : ℤ) (p : List ℤ) → ((k : ℕ) → k < s.count → x ≡ s.first +ℤ s.stride *ℤ pos k → ⊥) → Accepts (Along s) p → coordinate (Along s) p ≡ x → ⊥
+no_place s x [] none a e = a
+no_place s x (pos m ∷ p) none a e =
+    let some : 0 < s.count = s.some in
+    none m (omega (arith, ints, a.0, a.1)) (sym e)
+no_place s x (negsuc m ∷ p) none a e = absurd (omega (arith, ints, a.0))
+
+-- a place on an axis of positions, as the code casts it
+pub place_fits : (k n : ℕ) → k < n → (pos n -ℤ pos 1) ≤ℤ pos 4000000 → FitsSigned w32 (pos k)
+place_fits k n h limit = omega (arith, ints)
+
+pub place_is_cast : (k n : ℕ) → k < n → (pos n -ℤ pos 1) ≤ℤ pos 4000000 → to_z w32 k ≡ pos k
+place_is_cast k n h limit = omega (arith, ints)
+
+-- a number that is not negative, as the code casts it
+pub cast_fits : (k : ℤ) → FitsSigned w32 k → pos 0 ≤ℤ k → T (non_neg (to_z w32 (of_z w32 k))) × Fits w32 (nat_abs (to_z w32 (of_z w32 k)))
+cast_fits (pos n) f h = rw (to_z-of_z w32 (pos n) f) (tt, omega (arith, ints, f))
+cast_fits (negsuc n) f h = absurd (omega (arith, ints))
+
+pub cast_is : (k : ℤ) → FitsSigned w32 k → pos 0 ≤ℤ k → pos (nat_abs (to_z w32 (of_z w32 k))) ≡ k
+cast_is (pos n) f h = rw (to_z-of_z w32 (pos n) f) refl
+cast_is (negsuc n) f h = absurd (omega (arith, ints))
+
+pub cast_below : (k : ℤ) (n : ℕ) → FitsSigned w32 k → pos 0 ≤ℤ k → 0 < n → k ≤ℤ (pos n -ℤ pos 1) → nat_abs (to_z w32 (of_z w32 k)) < n
+cast_below k n f low some high = let is = cast_is k f low in omega (arith, ints, is)
+
+-- the first number of a position that the slot accepts
+pub first_number : (s : Strided) (p : List ℤ) (k : ℤ) → slice_get p 0 ≡ Some k → Accepts (Along s) p → (pos 0 ≤ℤ k) × (k ≤ℤ (pos s.count -ℤ pos 1)) × (coordinate (Along s) p ≡ s.first +ℤ s.stride *ℤ k)
+first_number s [] k e h = absurd h
+first_number s (i ∷ p) k e h = let same : i ≡ k = cc in rw (← same) (h.0, h.1, refl)
+
 abbrev pub zeros : List ℤ
 zeros = pos 0 ∷ pos 0 ∷ pos 0 ∷ []
 
@@ -139,42 +172,61 @@ named_of_coordinates (a ∷ b ∷ []) r few f = rw f refl
 named_of_coordinates (a ∷ b ∷ e ∷ []) r few f = rw f refl
 named_of_coordinates (a ∷ b ∷ e ∷ g ∷ c) r few f = absurd (omega arith)
 
--- the three slots name these coordinates at a position
+-- the three slots take a position apart, and name at it the coordinates of a cell as the code passes them on
 pub record NamesThree (x y z : Slot) (p r : List ℤ) : Type 0 where
-  pub on_x : coordinate x p ≡ slice_index_or r 0 (pos 0)
-  pub on_y : coordinate y (left_over x p) ≡ slice_index_or r 1 (pos 0)
-  pub on_z : coordinate z (left_over y (left_over x p)) ≡ slice_index_or r 2 (pos 0)
+  pub taken : TakesApart x y z p
+  pub on_x : coordinate x p ≡ to_z w32 (of_z w32 (slice_index_or r 0 (pos 0)))
+  pub on_y : coordinate y (left_over x p) ≡ to_z w32 (of_z w32 (slice_index_or r 1 (pos 0)))
+  pub on_z : coordinate z (left_over y (left_over x p)) ≡ to_z w32 (of_z w32 (slice_index_or r 2 (pos 0)))
 
-pub names_three : (d : ℕ) (x y z : Slot) (slots : List Slot) (p c r : List ℤ) → IsPaddedView d x y z → take d (x ∷ y ∷ z ∷ []) ≡ slots → r ≡ take 3 (c ++ zeros) → cell_named slots p ≡ c → NamesThree x y z p r
-names_three d x y z slots p c r v e f named =
-    let u : ℤ = coordinate x p in
+pub names_three : (d : ℕ) (x y z : Slot) (slots : List Slot) (p c r : List ℤ) → FitsSigned w32 (slice_index_or r 0 (pos 0)) → FitsSigned w32 (slice_index_or r 1 (pos 0)) → FitsSigned w32 (slice_index_or r 2 (pos 0)) → IsPaddedView d x y z → take d (x ∷ y ∷ z ∷ []) ≡ slots → r ≡ take 3 (c ++ zeros) → IsIn (positions_of slots) p → cell_named slots p ≡ c → NamesThree x y z p r
+names_three d x y z slots p c r fx fy fz v e f inside named =
     let here : take d (coordinate x p ∷ coordinate y (left_over x p) ∷ coordinate z (left_over y (left_over x p)) ∷ []) ≡ c =
     sym (cell-three d x y z p v) ∙ ap (λ (s : List Slot). cell_named s p) e ∙ named in
     let all : (slice_index_or r 0 (pos 0) ≡ coordinate x p) × (slice_index_or r 1 (pos 0) ≡ coordinate y (left_over x p)) × (slice_index_or r 2 (pos 0) ≡ coordinate z (left_over y (left_over x p))) =
     coordinates_of_named d (coordinate x p) (coordinate y (left_over x p)) (coordinate z (left_over y (left_over x p))) c r v.some v.few
     (λ h. ap (λ (s : Slot). coordinate s (left_over x p)) (v.no_y h)) (λ h. ap (λ (s : Slot). coordinate s (left_over y (left_over x p))) (v.no_z h)) here f in
-    record { on_x = sym all.0; on_y = sym all.1; on_z = sym all.2 }
+    record {
+      taken = taken_apart d x y z slots p v e inside;
+      on_x = sym (to_z-of_z w32 (slice_index_or r 0 (pos 0)) fx ∙ all.0);
+      on_y = sym (to_z-of_z w32 (slice_index_or r 1 (pos 0)) fy ∙ all.1);
+      on_z = sym (to_z-of_z w32 (slice_index_or r 2 (pos 0)) fz ∙ all.2);
+    }
 
-pub three_name : (d : ℕ) (x y z : Slot) (slots : List Slot) (p c r : List ℤ) → IsPaddedView d x y z → take d (x ∷ y ∷ z ∷ []) ≡ slots → length c ≡ d → r ≡ take 3 (c ++ zeros) → NamesThree x y z p r → cell_named slots p ≡ c
-three_name d x y z slots p c r v e long f n =
+pub three_name : (d : ℕ) (x y z : Slot) (slots : List Slot) (p c r : List ℤ) → FitsSigned w32 (slice_index_or r 0 (pos 0)) → FitsSigned w32 (slice_index_or r 1 (pos 0)) → FitsSigned w32 (slice_index_or r 2 (pos 0)) → IsPaddedView d x y z → take d (x ∷ y ∷ z ∷ []) ≡ slots → r ≡ take 3 (c ++ zeros) → length c ≡ d → NamesThree x y z p r → IsIn (positions_of slots) p × (cell_named slots p ≡ c)
+three_name d x y z slots p c r fx fy fz v e f long n =
     let dims : length c ≤ 3 = omega (arith, v.few, long) in
-    sym (ap (λ (s : List Slot). cell_named s p) e) ∙ cell-three d x y z p v
-    ∙ rw (n.on_x, n.on_y, n.on_z, ← long) (named_of_coordinates c r dims f)
+    let on_x : coordinate x p ≡ slice_index_or r 0 (pos 0) = n.on_x ∙ to_z-of_z w32 (slice_index_or r 0 (pos 0)) fx in
+    let on_y : coordinate y (left_over x p) ≡ slice_index_or r 1 (pos 0) = n.on_y ∙ to_z-of_z w32 (slice_index_or r 1 (pos 0)) fy in
+    let on_z : coordinate z (left_over y (left_over x p)) ≡ slice_index_or r 2 (pos 0) = n.on_z ∙ to_z-of_z w32 (slice_index_or r 2 (pos 0)) fz in (
+      put_together d x y z slots p v e n.taken,
+      sym (ap (λ (s : List Slot). cell_named s p) e) ∙ cell-three d x y z p v ∙ rw (on_x, on_y, on_z, ← long) (named_of_coordinates c r dims f),
+    )
 
 -- a position of a box of at most three axes
 pub length_of_named : (slots : List Slot) (p : List ℤ) → length (cell_named slots p) ≡ length slots
 length_of_named [] p = refl
 length_of_named (slot ∷ slots) p = ap suc (length_of_named slots (left_over slot p))
 
+pub same_some : {A : Type 0} (a b : A) → Some a ≡ Some b → a ≡ b
+same_some a b e = cc
+
+pub not_none : {A B : Type 0} (a : A) → ◌≡◌ {A = Option A} None (Some a) → B
+not_none a e = cc
+
 -- what is said of a value that is there follows from what was said
 pub if_some_then : {A : Type 0} (P Q : A → Type 0) (r : Option A) → IfSome r P → ((a : A) → P a → Q a) → IfSome r Q
 if_some_then P Q None h f = tt
 if_some_then P Q (Some a) h f = f a h
 
-pub length_left : (slot : Slot) (p : List ℤ) → length p ≤ length (left_over slot p) + 1
+length_left : (slot : Slot) (p : List ℤ) → length p ≤ length (left_over slot p) + 1
 length_left (Fixed x) p = omega arith
 length_left (Along s) [] = omega arith
 length_left (Along s) (k ∷ p) = omega arith
+
+-- a position has at most one number more than what is left of it
+pub one_more : (slot : Slot) (p later : List ℤ) (n : ℕ) → left_over slot p ≡ later → length later ≤ n → length p ≤ n + 1
+one_more slot p later n e h = omega (arith, length_left slot p, ap length e)
 
 -- a number between two places of a slot lies between their coordinates
 pub between_ends : (first stride : ℤ) (k n : ℕ) (axis : Interval) → k ≤ n → IsIn (axis ∷ []) (first ∷ []) → IsIn (axis ∷ []) ((first +ℤ stride *ℤ pos n) ∷ []) → IsIn (axis ∷ []) ((first +ℤ stride *ℤ pos k) ∷ [])

@@ -54,19 +54,11 @@ impl Run {
     fn of(numbers: Strided) -> Run
         ensures { (z : ℤ) → IsStepping result.start result.step result.count z ↔ IsStriding numbers.first numbers.stride numbers.count z }
     {
-        let step = u64::from(numbers.stride.unsigned_abs());
-        let count = u64::from(numbers.count);
-        if numbers.stride > 0 {
-            return Run {
-                start: i64::from(numbers.first),
-                step,
-                count,
-            };
-        }
+        let last = numbers.at(numbers.count - 1);
         Run {
-            start: i64::from(numbers.at(numbers.count - 1)),
-            step,
-            count,
+            start: i64::from(numbers.first.min(last)),
+            step: u64::from(numbers.stride.unsigned_abs()),
+            count: u64::from(numbers.count),
         }
     }
 

@@ -17,6 +17,7 @@ pub enum Slot {
 
 impl Slot {
     ghost use Rattle.pooma_view.specs.Common.{NamesNumber};
+    ghost use Rattle.pooma_view.specs.Steps.{IsStriding};
     ghost use Rattle.pooma_view.specs.Slots.{places_of, with_places, coordinate, left_over, first_named, last_named, Accepts, HasPlaces, IsWithinPlaces, IsRestricted};
 
     /// The places as an axis: a fixed slot has one place. None where they are more than an axis
@@ -124,13 +125,17 @@ impl Slot {
         }
     }
 
-    // Whether the slot names this coordinate at some position.
-    fn names(self, x: i32) -> bool
-        ensures { IsTrue result ↔ NamesNumber self x }
+    // The coordinates that the slot names. A fixed slot's is one number, at any stride.
+    fn numbers(self) -> Strided
+        ensures { (z : ℤ) → IsStriding result.first result.stride result.count z ↔ NamesNumber self z }
     {
         match self {
-            Slot::Fixed(here) => here == x,
-            Slot::Along(numbers) => numbers.place_of(x).is_some(),
+            Slot::Fixed(x) => Strided {
+                first: x,
+                stride: 1,
+                count: 1,
+            },
+            Slot::Along(numbers) => numbers,
         }
     }
 
@@ -140,12 +145,6 @@ impl Slot {
         ensures greatest { IfSome result (λ ends. NamesNumber self ends.1 × NamesNumber other ends.1) }
         ensures between { (z : ℤ) → NamesNumber self z → NamesNumber other z → IsSomeAnd result (λ ends. (ends.0 ≤ℤ z) × (z ≤ℤ ends.1)) }
     {
-        match self {
-            Slot::Fixed(x) => { if other.names(x) { Some((x, x)) } else { None } }
-            Slot::Along(numbers) => match other {
-                Slot::Fixed(x) => { if self.names(x) { Some((x, x)) } else { None } }
-                Slot::Along(others) => common_ends(numbers, others),
-            },
-        }
+        common_ends(self.numbers(), other.numbers())
     }
 }
