@@ -1,6 +1,6 @@
 ghost use Rattle.std.specs.Prelude.{◌≡◌, ◌≢◌, ◌<◌, [], ◌∷◌, ◌++◌, ℕ, List, Option, None, length, option_map, IfOk, OnErr};
 
-use std::alloc::AllocError;
+use std::alloc::{AllocError, Global};
 
 /// Who chooses which of the iterates that are ready runs next.
 pub trait Picker {
@@ -9,7 +9,7 @@ pub trait Picker {
 
     /// The place of the entry to run among the ready ones, counted from 0. The only error is want of memory, and an
     /// error answers no question.
-    fn pick(&mut self, ready: &[u32]) -> Result<usize, AllocError>
+    fn pick(&mut self, alloc: Global, ready: &[u32]) -> Result<usize, AllocError>
         requires { ready.now ≢ [] }
         ensures place { IfOk result (λ place. place < length ready.now) }
         ensures asks { IfOk result (λ place. asked self.new ≡ option_map (λ questions. questions ++ (ready.now, place) ∷ []) (asked self.old)) }
@@ -23,7 +23,7 @@ pub struct First;
 impl Picker for First {
     ghost asked = { λ _. None };
 
-    fn pick(&mut self, _ready: &[u32]) -> Result<usize, AllocError>
+    fn pick(&mut self, _alloc: Global, _ready: &[u32]) -> Result<usize, AllocError>
         ensures { result ≡ Ok 0 }
     {
         Ok(0)

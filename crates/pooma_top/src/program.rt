@@ -97,7 +97,7 @@ impl<'a> Program<'a> {
     }
 
     /// Adds a brick at the end.
-    pub fn declare(&mut self, brick: Brick<'a>) -> Result<(), AllocError>
+    pub fn declare(&mut self, _alloc: Global, brick: Brick<'a>) -> Result<(), AllocError>
         ensures ok { OnOk result (self.new ≡ record self.old { bricks = self.old.bricks ++ brick.entry ∷ [] }) }
         ensures err { OnErr result (self.new ≡ self.old) }
     {
@@ -106,7 +106,7 @@ impl<'a> Program<'a> {
     }
 
     /// Adds a statement at the end.
-    pub fn push(&mut self, statement: Statement) -> Result<(), AllocError>
+    pub fn push(&mut self, _alloc: Global, statement: Statement) -> Result<(), AllocError>
         requires { array_of statement < length self.old.bricks }
         ensures ok { OnOk result (self.new ≡ record self.old { statements = self.old.statements ++ statement ∷ [] }) }
         ensures err { OnErr result (self.new ≡ self.old) }

@@ -37,7 +37,7 @@ pub fn read_script(alloc: Global, bytes: &[u8]) -> Result<Script<'_>, AllocError
         let number = index + 1;
         let line = &bytes[span.start..span.end];
         match read_line(alloc, number, line, program.bricks())? {
-            Some(found) => take(&mut program, found)?,
+            Some(found) => take(alloc, &mut program, found)?,
             None => return Ok(Script::Refused(number as u32, Cause::Unsupported)),
         }
     }
@@ -45,14 +45,14 @@ pub fn read_script(alloc: Global, bytes: &[u8]) -> Result<Script<'_>, AllocError
 }
 
 /// Adds what a line means to the program. After want of memory the program is as before.
-fn take<'a>(program: &mut Program<'a>, found: Found<'a>) -> Result<(), AllocError>
+fn take<'a>(alloc: Global, program: &mut Program<'a>, found: Found<'a>) -> Result<(), AllocError>
     requires { IsFit program.old.bricks (meaning_of found) }
     ensures ok { OnOk result (program.new ≡ with_meaning program.old (meaning_of found.entry)) }
     ensures err { OnErr result (program.new ≡ program.old) }
 {
     match found {
         Found::Nothing => Ok(()),
-        Found::Declares(brick) => program.declare(brick),
-        Found::Does(statement) => program.push(statement),
+        Found::Declares(brick) => program.declare(alloc, brick),
+        Found::Does(statement) => program.push(alloc, statement),
     }
 }
