@@ -15,6 +15,18 @@ pub signed_some : (most : ℕ) (n : ℤ) → IsSigned most [] n → ⊥
 unfolding IsSigned
 signed_some most n s = elim s.2 [ inl plain ↦ cc | inr signed ↦ cc ]
 
+-- no token spells no form
+pub no_token : (form : Form) → Spells [] form → ⊥
+no_token (Brick name first last) s = cc (s.3)
+no_token (Assign name value) s = cc (s.3)
+no_token (Print name) s = cc (s.1)
+
+-- nor does one
+pub one_token : (a : Spelling) (form : Form) → Spells (a ∷ []) form → ⊥
+one_token a (Brick name first last) s = cc (s.3)
+one_token a (Assign name value) s = cc (s.3)
+one_token a (Print name) s = cc (s.1)
+
 -- two tokens spell a print
 pub two_tokens : (a b : Spelling) (form : Form) → Spells (a ∷ b ∷ []) form
     → (name : List ℕ) × IsName name × (a ≡ word (codes "print")) × (b ≡ word name) × (form ≡ Print name)

@@ -1,5 +1,6 @@
 mod Bricks
 mod Cut
+mod Existence
 mod Forms
 mod LineLemmas
 mod Lists

@@ -11,18 +11,13 @@ use Rattle.pooma_top.specs.Output.{IsOutput, Output, output_of}
 use Rattle.pooma_top.specs.Program.{Brick, IsNamed}
 use Rattle.pooma_top.specs.Script.{AreRefusedAt, FormMeans, IsScript, Mean, Meaning, Means, Refused, Runs, Script, bricks_of, statements_of}
 use Rattle.pooma_top.proofs.Bricks.{contains_of_named}
+use Rattle.pooma_top.proofs.Forms.{no_token}
 use Rattle.pooma_top.proofs.Meant.{bricks_of-append}
 use Rattle.pooma_top.proofs.Unique.{one_form}
 
 -- no two bricks have one name
 abbrev pub AreDistinct : List Brick → Type 0
 AreDistinct bricks = (j k : ℕ) (name : List ℕ) → IsNamed bricks j name → IsNamed bricks k name → j ≡ k
-
--- no token spells no form
-no_form : (f : Form) → Spells [] f → ⊥
-no_form (form.Brick name first last) s = cc (s.3)
-no_form (form.Assign name value) s = cc (s.3)
-no_form (form.Print name) s = cc (s.1)
 
 -- a name stands among the bricks with one more as it did, or at the end
 named_in_more : (bricks : List Brick) (brick : Brick) (k : ℕ) (name : List ℕ) → IsNamed (bricks ++ brick ∷ []) k name
@@ -81,9 +76,9 @@ module _ (one : (line : List ℕ) (a b : List Token) → HasTokens line a → Ha
   means_unique : (number : ℕ) (bricks : List Brick) (line : List ℕ) (m n : Meaning) → AreDistinct bricks → Means number bricks line m → Means number bricks line n → m ≡ n
   means_unique number bricks line m n distinct (inl a) (inl b) = a.1 ∙ sym b.1
   means_unique number bricks line m n distinct (inl a) (inr b) =
-      absurd (no_form b.1 (let none = one line b.2.0 [] b.2.1 a.0 in rw none at b.2.3))
+      absurd (no_token b.1 (let none = one line b.2.0 [] b.2.1 a.0 in rw none at b.2.3))
   means_unique number bricks line m n distinct (inr a) (inl b) =
-      absurd (no_form a.1 (let none = one line a.2.0 [] a.2.1 b.0 in rw none at a.2.3))
+      absurd (no_token a.1 (let none = one line a.2.0 [] a.2.1 b.0 in rw none at a.2.3))
   means_unique number bricks line m n distinct (inr a) (inr b) =
       let tokens = one line _ _ a.2.1 b.2.1 in
       let forms = one_form _ a.1 b.1 (rw tokens at a.2.3) b.2.3 in
