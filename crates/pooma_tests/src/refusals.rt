@@ -105,35 +105,56 @@ fn literals_have_at_most_nineteen_digits_that_count(rt: HostRuntime) -> Result<(
 #[test]
 fn limits_hold_to_the_last(rt: HostRuntime) -> Result<(), Fail> {
     let alloc = rt.alloc();
-    // front, part, times, back, and whether it is refused
-    let rows: [(&[u8], &[u8], usize, &[u8], bool); 15] = [
-        (b"brick ", b"a", 32, b" (0:1)\n", false),
-        (b"brick ", b"a", 33, b" (0:1)\n", true),
-        (b"brick A (0:9", b"9", 1, b")\n", false),
-        (b"brick A (0:9", b"9", 2, b")\n", false),
-        (b"brick A (0:9", b"9", 3, b")\n", true),
-        (b"brick A (0:1)\nA = ", b"0", 200, b"7\n", false),
-        (b"brick A (0:1)\nA = ", b"1", 19, b"\n", false),
-        (b"brick A (0:1)\nA = ", b"1", 20, b"\n", true),
-        (b"brick A (0:1)\n", b"\n", 998, b"print A\n", false),
-        (b"brick A (0:1)\n", b"\n", 999, b"print A\n", true),
-        (b"brick A (0:1)\n", b"\n", 12_000, b"", false),
-        (b"#", b"x", 1_048_575, b"", false),
-        (b"#", b"x", 1_048_576, b"", true),
-        (b"", b"+", 4097, b"\n", true),
-        (b"", b"+", 4096, b"\n", true),
+    let first: &[u8] = b"refused line 1: unsupported\n";
+    // front, part, times, back, and what is written
+    let rows: [(&[u8], &[u8], usize, &[u8], &[u8]); 15] = [
+        (b"brick ", b"a", 32, b" (0:1)\n", b""),
+        (b"brick ", b"a", 33, b" (0:1)\n", first),
+        (b"brick A (0:9", b"9", 1, b")\n", b""),
+        (b"brick A (0:9", b"9", 2, b")\n", b""),
+        (b"brick A (0:9", b"9", 3, b")\n", first),
+        (b"brick A (0:0)\nA = ", b"0", 200, b"7\nprint A\n", b"7\n"),
+        (
+            b"brick A (0:0)\nA = ",
+            b"1",
+            19,
+            b"\nprint A\n",
+            b"1111111111111111111\n",
+        ),
+        (
+            b"brick A (0:0)\nA = ",
+            b"1",
+            20,
+            b"\n",
+            b"refused line 2: unsupported\n",
+        ),
+        (b"brick A (0:1)\n", b"\n", 998, b"print A\n", b"0 0\n"),
+        (
+            b"brick A (0:1)\n",
+            b"\n",
+            999,
+            b"print A\n",
+            b"refused line 1001: unsupported\n",
+        ),
+        (b"brick A (0:1)\n", b"\n", 12_000, b"", b""),
+        (b"#", b"x", 1_048_575, b"", b""),
+        (
+            b"#",
+            b"x",
+            1_048_576,
+            b"",
+            b"refused line 0: limit (script bytes)\n",
+        ),
+        (b"", b"+", 4097, b"\n", first),
+        (b"", b"+", 4096, b"\n", first),
     ];
-    for (front, part, times, back, refused) in rows {
+    for (front, part, times, back, text) in rows {
         let input = built(alloc, front, part, times, back)?;
         let ended = run(alloc, &["run", "1"], &input)?;
+        let refused = text.starts_with(b"refused");
+        assert_eq!(rt; ended.text.as_slice(), text, "at {times}");
         assert_eq!(rt; ended.status == Status::Refused, refused, "at {times}");
         assert_eq!(rt; ended.status == Status::Done, !refused, "at {times}");
     }
-    let input = built(alloc, b"#", b"x", 1_048_576, b"")?;
-    let ended = run(alloc, &["run", "1"], &input)?;
-    assert_eq!(rt;
-        ended.text.as_slice(),
-        b"refused line 0: limit (script bytes)\n".as_slice()
-    );
     Ok(())
 }
