@@ -1,0 +1,9 @@
+pub mod Faces
+pub mod Look
+pub mod Numbered
+pub mod Padding
+pub mod Shapes
+pub mod ShapeOf
+pub mod Sources
+pub mod Updaters
+pub mod Worlds

@@ -1,0 +1,13 @@
+//! Fields: shapes of arrays, the updaters of a field's faces, and where the value of a cell outside the physical domain
+//! comes from. The definitions of a world, and of looking a cell up in it, stand here too. No call takes memory.
+#![tactic(auto)]
+
+mod faces;
+mod shapes;
+mod updaters;
+
+pub use faces::{Ends, Faces};
+
+pub use shapes::{Shape, Slab};
+
+pub use updaters::{Updater, antireflected, extrapolated};

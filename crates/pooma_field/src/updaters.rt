@@ -1,0 +1,46 @@
+ghost use Rattle.std.specs.Prelude.{◌≡◌, neg_ℤ};
+
+/// What gives a field its values beside the physical domain, one for each of its faces.
+#[derive(Clone, Copy, Debug, PartialEq, Eq)]
+pub enum Updater {
+    /// This number.
+    Constant(i64),
+
+    /// The value at the cell that is a whole number of the axis's lengths away.
+    Periodic,
+
+    /// The value at the cell that lies as far inside as this one lies outside.
+    Reflect,
+
+    /// The same with the other sign.
+    Antireflect,
+
+    /// The value on the line through the cell at the face and the one next to it inside.
+    Extrapolate,
+}
+
+ghost use Rattle.pooma_field.specs.Updaters.{clamped, extrapolation};
+
+/// The number with the other sign, or the greatest where that is one too great.
+pub fn antireflected(v: i64) -> i64
+    ensures { result ≡ clamped (neg_ℤ v) }
+{
+    clamp(-i128::from(v))
+}
+
+/// The value so many steps beyond the face on the line through the face's value and that of the cell next to it inside, or
+/// the nearest that 64 bits have.
+pub fn extrapolated(face: i64, inner: i64, distance: u32) -> i64
+    ensures { result ≡ extrapolation face inner distance }
+{
+    let step = i128::from(face) - i128::from(inner);
+    let rise = i128::from(distance) * step;
+    clamp(i128::from(face) + rise)
+}
+
+// The number of 64 bits that is nearest.
+fn clamp(exact: i128) -> i64
+    ensures { result ≡ clamped exact }
+{
+    exact.clamp(i128::from(i64::MIN), i128::from(i64::MAX)) as i64
+}
