@@ -1,12 +1,11 @@
 -- The definitions on worked cases, by computing.
-use Rattle.std.specs.Prelude.{◌≡◌, ℕ, ℤ, pos, negsuc, neg_ℤ, true, false, Option, Some, None, List, [], ◌∷◌, map, refl}
+use Rattle.std.specs.Prelude.{◌≡◌, ℤ, pos, negsuc, neg_ℤ, true, false, Some, List, [], ◌∷◌, map, refl}
 use Rattle.pooma_domain.specs.Cells.{Interval, interval, cells_of}
-use Rattle.pooma_field.specs.declared.faces.Ends.{Ends}
 use Rattle.pooma_field.specs.declared.updaters.Updater.{Updater}
 use Rattle.pooma_field.specs.declared.updaters.Updater.TheVariants.{Constant, Periodic, Reflect, Antireflect, Extrapolate}
 use Rattle.pooma_field.specs.Faces.{by_axis}
 use Rattle.pooma_field.specs.Look.{look}
-use Rattle.pooma_field.specs.Numbered.{Numbered, Change, place_in, number_at, with_changes}
+use Rattle.pooma_field.specs.Numbered.{place_in, number_at, with_changes}
 use Rattle.pooma_field.specs.Shapes.{Shaped, slab_of}
 use Rattle.pooma_field.specs.Sources.{source_of}
 

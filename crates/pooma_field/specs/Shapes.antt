@@ -1,5 +1,5 @@
 -- The shape of an array: the box that its statements speak of, the box of all its cells, and for a field its faces.
-use Rattle.std.specs.Prelude.{◌≡◌, ◌⊎◌, ℕ, zero, suc, ◌+◌, ℤ, pos, ◌+ℤ◌, ◌-ℤ◌, ◌≤ℤ◌, Bool, true, false, Option, Some, None, List, [], ◌∷◌, ◌++◌, length, slice_get, take, drop}
+use Rattle.std.specs.Prelude.{◌≡◌, ◌⊎◌, ℕ, zero, suc, ◌<◌, ℤ, pos, ◌+ℤ◌, ◌-ℤ◌, ◌≤ℤ◌, Bool, true, false, Option, Some, List, [], ◌∷◌, ◌++◌, length, slice_get, take, drop}
 use Rattle.std.specs.Option.{ForSome, option_map_or}
 use Rattle.pooma_domain.specs.Cells.{Interval, interval, axis_length, IsIn}
 use Rattle.pooma_field.specs.declared.faces.Ends.{Ends}
@@ -38,9 +38,10 @@ slab_axes high (suc n) (p ∷ physical) (t ∷ total) = t ∷ slab_axes high n p
 abbrev pub slab_of : Bool → ℕ → Shaped → List Interval
 slab_of high axis shape = slab_axes high axis shape.physical shape.total
 
--- the cell lies in the low or in the high slab of the axis
+-- the array has the axis, and the cell lies in its low or in its high slab: it goes by this axis
 abbrev pub IsInSlabs : Shaped → ℕ → List ℤ → Type 0
-IsInSlabs shape axis c = IsIn (slab_of false axis shape) c ⊎ IsIn (slab_of true axis shape) c
+IsInSlabs shape axis c =
+    (axis < length shape.physical) × (IsIn (slab_of false axis shape) c ⊎ IsIn (slab_of true axis shape) c)
 
 -- the cells that are inside on an axis and on the greater ones: total on the lower axes alone
 abbrev pub inside_from : ℕ → Shaped → List Interval

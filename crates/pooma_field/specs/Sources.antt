@@ -1,6 +1,6 @@
 -- The cell from which an updater takes the value of a cell outside the physical domain.
-use Rattle.std.specs.Prelude.{ℕ, zero, suc, ℤ, Option, Some, None, option_map, option_and_then, List, [], ◌∷◌}
-use Rattle.pooma_domain.specs.Cells.{Interval}
+use Rattle.std.specs.Prelude.{◌⊎◌, ℕ, zero, suc, ℤ, pos, ◌-ℤ◌, ◌≤ℤ◌, ◌<ℤ◌, Option, Some, None, option_map, option_and_then, List, [], ◌∷◌}
+use Rattle.pooma_domain.specs.Cells.{Interval, axis_length}
 use Rattle.pooma_field.specs.declared.faces.Ends.{Ends}
 use Rattle.pooma_field.specs.declared.updaters.Updater.{Updater}
 use Rattle.pooma_field.specs.declared.updaters.Updater.TheVariants.{Constant, Periodic, Reflect, Antireflect, Extrapolate}
@@ -27,3 +27,9 @@ source_cell (axis ∷ axes) (ends ∷ faces) (suc n) (x ∷ xs) = option_map (λ
 -- none where the array is plain or the face's updater is a constant
 abbrev pub source_of : Shaped → ℕ → List ℤ → Option (List ℤ)
 source_of shape axis c = option_and_then (λ faces. source_cell shape.physical faces axis c) shape.faces
+
+-- the number lies beside the axis, at most as far away as the axis is long
+abbrev pub IsNear : Interval → ℤ → Type 0
+IsNear axis x =
+    ((x <ℤ axis.first) × ((axis.first -ℤ x) ≤ℤ pos (axis_length axis)))
+    ⊎ ((axis.last <ℤ x) × ((x -ℤ axis.last) ≤ℤ pos (axis_length axis)))

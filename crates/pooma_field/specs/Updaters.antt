@@ -9,10 +9,13 @@ use Rattle.pooma_field.specs.declared.updaters.Updater.TheVariants.{Constant, Pe
 abbrev pub wrapped : Interval → ℤ → ℤ
 wrapped axis x = axis.first +ℤ int_rem_euclid (x -ℤ axis.first) (pos (axis_length axis))
 
--- the number that lies as far inside the face as the given one lies outside: the mirror stands between the two
+-- the sum of a number on this side and its image in a mirror at the outer edge of the face
+abbrev pub mirror : Interval → ℤ → ℤ
+mirror axis x = if int_lt x axis.first then (axis.first +ℤ axis.first) -ℤ pos 1 else (axis.last +ℤ axis.last) +ℤ pos 1
+
+-- the number that lies as far inside the axis as the given one lies outside
 abbrev pub mirrored : Interval → ℤ → ℤ
-mirrored axis x =
-    if int_lt x axis.first then ((axis.first +ℤ axis.first) -ℤ pos 1) -ℤ x else ((axis.last +ℤ axis.last) +ℤ pos 1) -ℤ x
+mirrored axis x = mirror axis x -ℤ x
 
 -- the end of the axis on the number's side
 abbrev pub face : Interval → ℤ → ℤ
@@ -26,6 +29,14 @@ inner axis x =
 -- how far the number lies from the face
 abbrev pub distance : Interval → ℤ → ℕ
 distance axis x = unsigned_abs (x -ℤ face axis x)
+
+-- the updater gives one number everywhere
+abbrev pub IsConstant : Updater → Type 0
+IsConstant (Constant k) = Unit {0}
+IsConstant Periodic = ⊥
+IsConstant Reflect = ⊥
+IsConstant Antireflect = ⊥
+IsConstant Extrapolate = ⊥
 
 -- the number of 64 bits that is nearest
 abbrev pub clamped : ℤ → ℤ

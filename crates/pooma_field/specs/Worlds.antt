@@ -1,5 +1,5 @@
 -- Worlds: flat arrays and scalars. There are no patches in a world, and no guards.
-use Rattle.std.specs.Prelude.{◌≡◌, ℕ, ℤ, pos, ◌<◌, List, [], length, map, replicate, slice_index_or, slice_set}
+use Rattle.std.specs.Prelude.{ℕ, ℤ, pos, ◌<◌, List, [], length, map, replicate, slice_index_or, slice_set}
 use Rattle.pooma_domain.specs.Cells.{cells_of, IsIn}
 use Rattle.pooma_field.specs.Look.{look}
 use Rattle.pooma_field.specs.Numbered.{Numbered, Change, number_at, with_changes}

@@ -3,11 +3,13 @@
 #![tactic(auto)]
 
 mod faces;
+mod laws;
 mod shapes;
+mod sources;
 mod updaters;
 
 pub use faces::{Ends, Faces};
-
+pub use laws::{looking_up, numbers_of_cells, worlds_change};
 pub use shapes::{Shape, Slab};
-
+pub use sources::{has_source, source};
 pub use updaters::{Updater, antireflected, extrapolated};

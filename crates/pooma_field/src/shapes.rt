@@ -1,9 +1,12 @@
-ghost use Rattle.std.specs.Prelude.{◌≡◌, ◌↔◌, ◌<◌, ◌≤ℤ◌, Bool, Some, None, length, slice_get, IsSome, IfSome};
-ghost use Rattle.pooma_field.specs.Shapes.{IsShape, slab_axes};
+ghost use Rattle.std.specs.Prelude.{◌≡◌, ◌↔◌, pos, ◌-ℤ◌, ◌≤ℤ◌, length, IsTrue, IsSome, IfSome, IsNone};
+ghost use Rattle.std.specs.Option.{ForSome};
+ghost use Rattle.pooma_domain.specs.Axes.{interval_of};
+ghost use Rattle.pooma_domain.specs.Cells.{IsIn};
+ghost use Rattle.pooma_field.specs.Shapes.{IsAround, IsInSlabs, IsShape};
 
 use crate::faces::Faces;
 use crate::updaters::Updater;
-use pooma_domain::BoxN;
+use pooma_domain::{Axis, BoxN, Cell};
 
 /// The shape of an array. Its statements speak of the physical domain; its cells are those of the total domain, which has
 /// further cells beside the physical one. Where there are faces the array is a field, and their updaters give the cells
@@ -20,6 +23,88 @@ pub struct Shape {
     pub faces: Option<Faces>,
 
     pub ghost valid: { IsShape (record { physical = physical; total = total; faces = faces }) },
+}
+
+impl Shape {
+    ghost use Rattle.pooma_field.specs.ShapeOf.{shape_of};
+
+    /// The shape of these boxes and faces. None exactly where they are of none: where some axis of the total domain does not
+    /// hold that of the physical one or reaches too far beside it, where the boxes have different numbers of axes, or where
+    /// the faces have another one.
+    pub fn of(physical: BoxN, total: BoxN, faces: Option<Faces>) -> Option<Shape>
+        ensures found { IsSome result ↔ IsShape (record { physical = physical; total = total; faces = faces }) }
+        ensures value { IfSome result (λ shape. shape_of shape ≡ record { physical = physical; total = total; faces = faces }) }
+    {
+        let dims = physical.dims();
+        if total.dims() != dims || !are_faces_of(&faces, dims) {
+            return None;
+        }
+        for axis in 0..dims {
+            if !is_around(physical.axis(axis), total.axis(axis)) {
+                return None;
+            }
+        }
+        Some(Shape {
+            physical,
+            total,
+            faces,
+        })
+    }
+
+    /// The axis by which the value of a cell of a field goes, counted from 0: the greatest on which the cell lies outside the
+    /// physical domain. None exactly where the cell is physical.
+    pub fn outer_axis(&self, c: &Cell) -> Option<usize>
+        requires { IsIn self.now.total c.now }
+        ensures outside { IfSome result (λ axis. IsInSlabs (shape_of self.now) axis c.now) }
+        ensures physical { IsNone result ↔ IsIn self.now.physical c.now }
+    {
+        for axis in (0..self.physical.dims()).rev() {
+            if !holds(self.physical.axis(axis), c.at(axis)) {
+                return Some(axis);
+            }
+        }
+        None
+    }
+}
+
+// Whether the faces, if there are any, are those of so many axes.
+fn are_faces_of(faces: &Option<Faces>, dims: usize) -> bool
+    ensures { IsTrue result ↔ ForSome faces.now (λ given. length given ≡ dims) }
+{
+    match faces {
+        None => true,
+        Some(given) => given.dims() == dims,
+    }
+}
+
+fn holds(axis: Axis, x: i32) -> bool
+    ensures { IsTrue result ↔ ((axis.first ≤ℤ x) × (x ≤ℤ axis.last)) }
+{
+    axis.first <= x && x <= axis.last
+}
+
+// Whether the total axis holds the physical one, and has no more further numbers on either side than that one has.
+fn is_around(physical: Axis, total: Axis) -> bool
+    ensures { IsTrue result ↔ IsAround (interval_of physical) (interval_of total) }
+{
+    let most = gap(physical.first, physical.last) + 1;
+    is_within(gap(total.first, physical.first), most)
+        && is_within(gap(physical.last, total.last), most)
+}
+
+// How far the second number lies above the first.
+fn gap(low: i32, high: i32) -> i32
+    requires near { (low -ℤ high) ≤ℤ pos 8000000 }
+    requires far { (high -ℤ low) ≤ℤ pos 8000000 }
+    ensures { result ≡ high -ℤ low }
+{
+    high - low
+}
+
+fn is_within(further: i32, most: i32) -> bool
+    ensures { IsTrue result ↔ ((pos 0 ≤ℤ further) × (further ≤ℤ most)) }
+{
+    0 <= further && further <= most
 }
 
 /// The cells that one face of a field gives values to.

@@ -1,4 +1,5 @@
-ghost use Rattle.std.specs.Prelude.{◌≡◌, neg_ℤ};
+ghost use Rattle.std.specs.Prelude.{◌≡◌, ◌↔◌, ◌^◌, ◌<◌, ◌≤◌, pos, neg_ℤ, ◌*ℤ◌, unsigned_abs, IsTrue};
+ghost use Rattle.pooma_field.specs.Updaters.{clamped, extrapolation, IsConstant};
 
 /// What gives a field its values beside the physical domain, one for each of its faces.
 #[derive(Clone, Copy, Debug, PartialEq, Eq)]
@@ -19,7 +20,14 @@ pub enum Updater {
     Extrapolate,
 }
 
-ghost use Rattle.pooma_field.specs.Updaters.{clamped, extrapolation};
+impl Updater {
+    /// Whether the updater gives one number everywhere, and takes none from a cell.
+    pub fn is_constant(self) -> bool
+        ensures { IsTrue result ↔ IsConstant self }
+    {
+        matches!(self, Updater::Constant(_))
+    }
+}
 
 /// The number with the other sign, or the greatest where that is one too great.
 pub fn antireflected(v: i64) -> i64
@@ -33,9 +41,16 @@ pub fn antireflected(v: i64) -> i64
 pub fn extrapolated(face: i64, inner: i64, distance: u32) -> i64
     ensures { result ≡ extrapolation face inner distance }
 {
-    let step = i128::from(face) - i128::from(inner);
-    let rise = i128::from(distance) * step;
-    clamp(i128::from(face) + rise)
+    clamp(i128::from(face) + rise(i128::from(face) - i128::from(inner), distance))
+}
+
+// How much so many steps come to, each as large as two numbers of 64 bits lie apart.
+fn rise(step: i128, count: u32) -> i128
+    requires { unsigned_abs step < 2 ^ 64 }
+    ensures value { result ≡ pos count *ℤ step }
+    ensures small { unsigned_abs result ≤ 2 ^ 96 }
+{
+    i128::from(count) * step
 }
 
 // The number of 64 bits that is nearest.
