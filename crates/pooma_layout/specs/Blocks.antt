@@ -1,0 +1,24 @@
+-- Parts of nearly one length.
+use Rattle.std.specs.Prelude.{ℕ, ◌+◌, ◌-◌, ◌*◌, ◌/◌, ◌%◌, ◌≤◌, ℤ, pos, ◌≤ℤ◌, List, [], ◌∷◌, ◌++◌, map, replicate}
+use Rattle.pooma_domain.specs.Cells.{Interval, axis_length, count_of}
+use Rattle.pooma_layout.specs.Axes.{CutAxis, cut_at}
+
+-- the lengths of the parts, without the external guards
+abbrev pub part_lengths : CutAxis → List ℕ
+part_lengths axis = map axis_length (cut_at axis.physical.first axis.borders axis.physical.last)
+
+-- so many parts of so many cells: where the parts do not divide the cells, the first ones have one cell more
+abbrev pub block_lengths : ℕ → ℕ → List ℕ
+block_lengths cells parts = replicate (cells % parts) (cells / parts + 1) ++ replicate (parts - cells % parts) (cells / parts)
+
+-- an axis can be cut into so many parts: at least one, and each gets a cell
+abbrev pub IsPartCount : Interval → ℤ → Type 0
+IsPartCount axis parts = (pos 1 ≤ℤ parts) × (parts ≤ℤ pos (axis_length axis))
+
+-- the lengths of so many blocks of an axis
+abbrev pub blocks_of : Interval → ℤ → List ℕ
+blocks_of axis parts = block_lengths (axis_length axis) (count_of parts)
+
+abbrev pub product : List ℕ → ℕ
+product [] = 1
+product (x ∷ xs) = x * product xs
