@@ -2,7 +2,9 @@
 #![tactic(auto)]
 
 mod axes;
+mod laws;
 mod layouts;
 mod patches;
 
+pub use laws::{allocated_cells_of_patches, owners_of_cells, parts_by_borders};
 pub use layouts::Layout;

@@ -1,0 +1,7 @@
+pub mod Allocating
+pub mod Blocking
+pub mod Choices
+pub mod Counting
+pub mod Cutting
+pub mod Finding
+pub mod Owning
