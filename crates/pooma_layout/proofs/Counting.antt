@@ -52,3 +52,14 @@ short_is_box box few h = record {
 
 pub same_interval : (a b : Interval) → a.first ≡ b.first → a.last ≡ b.last → a ≡ b
 same_interval a b first last = ap (λ x. interval x a.last) first ∙ ap (λ x. interval b.first x) last
+
+-- a product of at most three factors that are below 2 ^ 21
+pub power_step : (a b n : ℕ) → a < 2 ^ 21 → b ≤ 2097151 ^ n → a * b ≤ 2097151 ^ suc n
+power_step a b n here rest =
+    let both : a * b ≤ 2097151 * 2097151 ^ n = mul-le a b 2097151 (2097151 ^ n) (omega (arith, here)) rest in
+    omega (arith, both, pow-suc 2097151 n, mul_comm (2097151 ^ n) 2097151)
+
+pub power_fits : (x n : ℕ) → n ≤ 3 → x ≤ 2097151 ^ n → x < 2 ^ 63
+power_fits x n few h =
+    let most : 2097151 ^ n ≤ 2097151 ^ 3 = pow-le-pow_right (lit≤ tt) few in
+    omega (arith, h, most)

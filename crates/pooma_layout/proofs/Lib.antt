@@ -5,3 +5,4 @@ pub mod Counting
 pub mod Cutting
 pub mod Finding
 pub mod Owning
+pub mod Stepping
