@@ -4,5 +4,6 @@ pub mod Choices
 pub mod Counting
 pub mod Cutting
 pub mod Finding
+pub mod Making
 pub mod Owning
 pub mod Stepping

@@ -122,7 +122,7 @@ pub length-owned : (axes : List CutAxis) (first : CutAxis) (later : List CutAxis
 length-owned axes first later split =
     ap (λ (xs : List CutAxis). length (owned_boxes xs)) split ∙ length-boxes_of (parts first) (map parts later)
 
-some_patch : (axes : List CutAxis) → 0 < length (owned_boxes axes)
+pub some_patch : (axes : List CutAxis) → 0 < length (owned_boxes axes)
 some_patch [] = omega arith
 some_patch (axis ∷ axes) =
     let here : 1 ≤ length (parts axis) = omega (arith, length-parts axis) in

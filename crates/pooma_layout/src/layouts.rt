@@ -115,6 +115,7 @@ impl Layout {
     /// How many patches there are: 1 to 256.
     pub fn patches(&self) -> usize
         ensures value { result ≡ length (owned_boxes self.now) }
+        ensures some { 0 < result }
         ensures valid { IsLayout self.now }
     {
         patches::count(&self.axes)

@@ -6,5 +6,5 @@ mod laws;
 mod layouts;
 mod patches;
 
-pub use laws::{allocated_cells_of_patches, owners_of_cells, parts_by_borders};
+pub use laws::{allocated_cells_of_patches, owners_of_cells, parts_of_axes};
 pub use layouts::Layout;

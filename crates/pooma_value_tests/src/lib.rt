@@ -6,6 +6,8 @@ mod domain;
 #[cfg(test)]
 mod field;
 #[cfg(test)]
+mod layout;
+#[cfg(test)]
 mod num;
 #[cfg(test)]
 mod view;
