@@ -1,13 +1,13 @@
 -- What patches allocate.
-use Rattle.std.proofs.Common.{refl, sym, ap, ◌∙◌, subst, arith, get_or, take}
+use Rattle.std.proofs.Common.{sym, ap, ◌∙◌, subst, arith, get_or, take}
 use Rattle.std.proofs.lemmas.Int.{ints, clamps}
 use Rattle.std.proofs.lemmas.List.Elements.{All-head, All-tail}
 use Rattle.std.proofs.lemmas.List.Sums.{sum_by-cons, sum_by_more, sum_by-take-le}
 use Rattle.std.proofs.lemmas.Option.{slice_get_within, get_or_from_slice_get}
-use Rattle.std.specs.Prelude.{◌≡◌, ◌^◌, sum_by, ℕ, zero, suc, ◌+◌, ◌*◌, ◌/◌, ◌%◌, ◌<◌, ◌≤◌, ℤ, pos, ◌-ℤ◌, ◌+ℤ◌, ◌≤ℤ◌, ◌<ℤ◌, Option, Some, None, List, [], ◌∷◌, length, map, slice_get, All, IsSomeAnd}
+use Rattle.std.specs.Prelude.{◌≡◌, ◌^◌, sum_by, ℕ, zero, suc, ◌+◌, ◌*◌, ◌/◌, ◌%◌, ◌<◌, ◌≤◌, ℤ, pos, ◌-ℤ◌, ◌+ℤ◌, ◌≤ℤ◌, ◌<ℤ◌, Some, List, [], ◌∷◌, length, map, slice_get, All}
 use Rattle.pooma_domain.specs.Cells.{Interval, interval, axis_length, IsIn}
 use Rattle.pooma_layout.specs.Axes.{CutAxis, total_axis, cut_at, parts, allocated_part, IsCutAxis}
-use Rattle.pooma_layout.specs.Patches.{boxes_of, owned_boxes, allocated_of, total_of}
+use Rattle.pooma_layout.specs.Patches.{owned_boxes, allocated_of, total_of}
 use Rattle.pooma_layout.proofs.Counting.{length_of_interval}
 use Rattle.pooma_layout.proofs.Cutting.{Cut, cut_is_ordered, interval_within, length-cut_at}
 use Rattle.pooma_layout.proofs.Choices.{box_at_place}
@@ -30,8 +30,7 @@ allocated_step : (axis : CutAxis) (axes : List CutAxis) (part : Interval) (rest 
 allocated_step axis axes part rest [] valid low high later = (λ h. absurd h, λ h. absurd h)
 allocated_step axis axes part rest (x ∷ xs) valid low high later =
     let holds : ((allocated_part axis part).first ≤ℤ part.first) × (part.last ≤ℤ (allocated_part axis part).last) = allocated_holds axis part valid low high in
-    let within : ((total_axis axis).first ≤ℤ (allocated_part axis part).first) × ((allocated_part axis part).last ≤ℤ (total_axis axis).last) = allocated_within axis part in
-    (
+    let within : ((total_axis axis).first ≤ℤ (allocated_part axis part).first) × ((allocated_part axis part).last ≤ℤ (total_axis axis).last) = allocated_within axis part in (
       λ h. (omega (arith, ints, holds.0, h.0), omega (arith, ints, holds.1, h.1), (later xs).0 h.2),
       λ h. (omega (arith, ints, within.0, h.0), omega (arith, ints, within.1, h.1), (later xs).1 h.2),
     )

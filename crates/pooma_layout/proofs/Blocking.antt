@@ -1,14 +1,14 @@
 -- Blocks: where they start, and that they have the lengths that they are to have.
-use Rattle.std.proofs.Common.{refl, sym, ap, ◌∙◌, subst, inl, inr, ⊎_elim, arith, get_or, replicate}
+use Rattle.std.proofs.Common.{ap, ◌∙◌, ⊎_elim, arith, get_or, replicate}
 use Rattle.std.proofs.lemmas.Bool.{cases_lt}
 use Rattle.std.proofs.lemmas.Int.{ints}
 use Rattle.std.proofs.lemmas.List.{length-map, length-append, length-replicate, length_push, get_or_append_left, get_or-append_right, get_or_push, get_or-replicate, get_or-map, ext_get_or}
 use Rattle.std.proofs.lemmas.Nat.{mul-le, mod_below, le-div}
 use Rattle.std.proofs.lemmas.Option.{get_or_from_slice_get}
 use Rattle.std.proofs.Math.Nat.{mod-add-div}
-use Rattle.std.specs.Prelude.{◌≡◌, ℕ, zero, suc, ◌+◌, ◌-◌, ◌*◌, ◌/◌, ◌%◌, ◌<◌, ◌≤◌, min, ℤ, pos, ◌+ℤ◌, ◌-ℤ◌, ◌≤ℤ◌, ◌<ℤ◌, List, [], ◌∷◌, ◌++◌, length, map, All}
+use Rattle.std.specs.Prelude.{◌≡◌, ℕ, zero, suc, ◌+◌, ◌-◌, ◌*◌, ◌/◌, ◌%◌, ◌<◌, ◌≤◌, min, ℤ, pos, ◌+ℤ◌, ◌≤ℤ◌, List, [], ◌∷◌, ◌++◌, length, map}
 use Rattle.pooma_domain.specs.Cells.{Interval, interval, axis_length}
-use Rattle.pooma_layout.specs.Axes.{cut_at, IsAscending, IsBorder, AreBorders}
+use Rattle.pooma_layout.specs.Axes.{cut_at, IsAscending, AreBorders}
 use Rattle.pooma_layout.specs.Blocks.{block_lengths, block_start, AreBlockStarts}
 use Rattle.pooma_layout.proofs.Counting.{length_of_interval}
 use Rattle.pooma_layout.proofs.Cutting.{begin_at, end_at, end_at_border, end_at_last, length-cut_at, slice_get-cut_at}
@@ -21,8 +21,8 @@ starts_more first cells parts k borders x count starts is = (
       ⊎_elim
       (λ earlier. get_or_append_left borders (x ∷ []) d j earlier ∙ starts j d earlier)
       (λ last.
-          let here : length borders ≡ j = omega (arith, length_push borders x, last, within) in
-          get_or_push borders x d j here ∙ is ∙ ap (λ n. first +ℤ pos (block_start cells parts n)) (omega (arith, count, here)))
+      let here : length borders ≡ j = omega (arith, length_push borders x, last, within) in
+      get_or_push borders x d j here ∙ is ∙ ap (λ n. first +ℤ pos (block_start cells parts n)) (omega (arith, count, here)))
       (cases_lt j (length borders)),
 )
 
@@ -67,9 +67,9 @@ ends_before_start axis cells parts borders k some end count starts h =
     ⊎_elim
     (λ below. omega (arith, ints, end_at_border borders axis.last k axis.first below, starts k axis.first below))
     (λ last.
-        let all : block_start cells parts (k + 1) ≡ cells =
-        ap (block_start cells parts) (let e : k + 1 ≡ parts = omega (arith, count, h, last) in e) ∙ start_past_last cells parts some in
-        omega (arith, ints, end_at_last borders axis.last k last, end, all))
+    let all : block_start cells parts (k + 1) ≡ cells =
+    ap (block_start cells parts) (let e : k + 1 ≡ parts = omega (arith, count, h, last) in e) ∙ start_past_last cells parts some in
+    omega (arith, ints, end_at_last borders axis.last k last, end, all))
     (cases_lt k (length borders))
 
 -- how long a block is
@@ -82,16 +82,16 @@ block_length_at cells parts k some h =
     let front : length (replicate (cells % parts) (cells / parts + 1)) ≡ cells % parts = length-replicate (cells % parts) (cells / parts + 1) in
     ⊎_elim
     (λ early.
-        let within : k < length (replicate (cells % parts) (cells / parts + 1)) = omega (arith, front, early) in
-        let is : get_or (block_lengths cells parts) k 0 ≡ cells / parts + 1 =
-        get_or_append_left (replicate (cells % parts) (cells / parts + 1)) (replicate (parts - cells % parts) (cells / parts)) 0 k within
-        ∙ get_or-replicate (cells % parts) k (cells / parts + 1) 0 early in
-        omega (arith, is, (next_start (cells / parts) (cells % parts) k).0 early))
+    let within : k < length (replicate (cells % parts) (cells / parts + 1)) = omega (arith, front, early) in
+    let is : get_or (block_lengths cells parts) k 0 ≡ cells / parts + 1 =
+    get_or_append_left (replicate (cells % parts) (cells / parts + 1)) (replicate (parts - cells % parts) (cells / parts)) 0 k within
+    ∙ get_or-replicate (cells % parts) k (cells / parts + 1) 0 early in
+    omega (arith, is, (next_start (cells / parts) (cells % parts) k).0 early))
     (λ late.
-        let is : get_or (block_lengths cells parts) k 0 ≡ cells / parts =
-        get_or-append_right (replicate (cells % parts) (cells / parts + 1)) (replicate (parts - cells % parts) (cells / parts)) (cells % parts) k 0 front late
-        ∙ get_or-replicate (parts - cells % parts) (k - cells % parts) (cells / parts) 0 (omega (arith, rest, late, h)) in
-        omega (arith, is, (next_start (cells / parts) (cells % parts) k).1 late))
+    let is : get_or (block_lengths cells parts) k 0 ≡ cells / parts =
+    get_or-append_right (replicate (cells % parts) (cells / parts + 1)) (replicate (parts - cells % parts) (cells / parts)) (cells % parts) k 0 front late
+    ∙ get_or-replicate (parts - cells % parts) (k - cells % parts) (cells / parts) 0 (omega (arith, rest, late, h)) in
+    omega (arith, is, (next_start (cells / parts) (cells % parts) k).1 late))
     (cases_lt k (cells % parts))
 
 pub lengths_of_blocks : (axis : Interval) (cells parts : ℕ) (borders : List ℤ) → 0 < parts → parts ≤ cells → axis.first +ℤ pos cells ≡ axis.last +ℤ pos 1 → length borders + 1 ≡ parts → AreBlockStarts axis.first cells parts borders → map axis_length (cut_at axis.first borders axis.last) ≡ block_lengths cells parts

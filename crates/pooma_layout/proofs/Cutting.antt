@@ -1,9 +1,9 @@
 -- The intervals between borders: where they begin and end, and which of them has a coordinate.
-use Rattle.std.proofs.Common.{refl, sym, ap, ◌∙◌, subst, inl, inr, ⊎_elim, arith, get_or}
+use Rattle.std.proofs.Common.{refl, sym, ap, ◌∙◌, subst, arith, get_or}
 use Rattle.std.proofs.lemmas.Int.{ints, by_lt_z}
 use Rattle.std.proofs.lemmas.List.{get_or_default}
 use Rattle.std.proofs.lemmas.List.Elements.{All-head, All-tail, All-cons, All-nil}
-use Rattle.std.specs.Prelude.{◌≡◌, ◌⊎◌, ◌↔◌, ℕ, zero, suc, ◌+◌, ◌-◌, ◌<◌, ◌≤◌, ℤ, pos, ◌+ℤ◌, ◌-ℤ◌, ◌≤ℤ◌, ◌<ℤ◌, int_le, true, false, Bool, cond, Some, List, [], ◌∷◌, length, slice_get, All, AllPairs, IsSomeAnd}
+use Rattle.std.specs.Prelude.{◌≡◌, ◌↔◌, ℕ, zero, suc, ◌+◌, ◌-◌, ◌<◌, ◌≤◌, ℤ, pos, ◌-ℤ◌, ◌≤ℤ◌, ◌<ℤ◌, int_le, true, false, Bool, cond, Some, List, [], ◌∷◌, length, slice_get, All, IsSomeAnd}
 use Rattle.pooma_domain.specs.Cells.{Interval, interval}
 use Rattle.pooma_layout.specs.Axes.{cut_at, part_of, IsAscending}
 
@@ -144,19 +144,18 @@ one_part_by_borders [] x y ascending h = (λ same. All-nil (λ border. ¬ ((x <�
 one_part_by_borders (border ∷ later) x y ascending h =
     by_lt_z x border
     (λ below.
-        by_lt_z y border
-        (λ both. (
-          λ same. All-cons (λ b. ¬ ((x <ℤ b) × (b ≤ℤ y))) border later (λ w. omega (arith, ints, w.1, both)) (λ k d within w. let above : border <ℤ get_or later k d = ascending_from_first border later ascending k d within in omega (arith, ints, w.1, above, both)),
-          λ none. part_of_below border later x below ∙ sym (part_of_below border later y both),
-        ))
-        (λ above. (
-          λ same. absurd (omega (arith, same, part_of_below border later x below, part_of_above border later y above)),
-          λ none. absurd (All-head (λ b. ¬ ((x <ℤ b) × (b ≤ℤ y))) border later none (below, above)),
-        )))
+    by_lt_z y border
+    (λ both. (
+      λ same. All-cons (λ b. ¬ ((x <ℤ b) × (b ≤ℤ y))) border later (λ w. omega (arith, ints, w.1, both)) (λ k d within w. let above : border <ℤ get_or later k d = ascending_from_first border later ascending k d within in omega (arith, ints, w.1, above, both)),
+      λ none. part_of_below border later x below ∙ sym (part_of_below border later y both),
+    ))
+    (λ above. (
+      λ same. absurd (omega (arith, same, part_of_below border later x below, part_of_above border later y above)),
+      λ none. absurd (All-head (λ b. ¬ ((x <ℤ b) × (b ≤ℤ y))) border later none (below, above)),
+    )))
     (λ above.
-        let further : border ≤ℤ y = omega (arith, ints, above, h) in
-        let rest : (part_of later x ≡ part_of later y) ↔ All (λ b. ¬ ((x <ℤ b) × (b ≤ℤ y))) later = one_part_by_borders later x y (ascending_later border later ascending) h in
-        (
-          λ same. All-cons (λ b. ¬ ((x <ℤ b) × (b ≤ℤ y))) border later (λ w. omega (arith, ints, w.0, above)) (rest.0 (omega (arith, same, part_of_above border later x above, part_of_above border later y further))),
-          λ none. part_of_above border later x above ∙ ap suc (rest.1 (All-tail (λ b. ¬ ((x <ℤ b) × (b ≤ℤ y))) border later none)) ∙ sym (part_of_above border later y further),
-        ))
+    let further : border ≤ℤ y = omega (arith, ints, above, h) in
+    let rest : (part_of later x ≡ part_of later y) ↔ All (λ b. ¬ ((x <ℤ b) × (b ≤ℤ y))) later = one_part_by_borders later x y (ascending_later border later ascending) h in (
+      λ same. All-cons (λ b. ¬ ((x <ℤ b) × (b ≤ℤ y))) border later (λ w. omega (arith, ints, w.0, above)) (rest.0 (omega (arith, same, part_of_above border later x above, part_of_above border later y further))),
+      λ none. part_of_above border later x above ∙ ap suc (rest.1 (All-tail (λ b. ¬ ((x <ℤ b) × (b ≤ℤ y))) border later none)) ∙ sym (part_of_above border later y further),
+    ))

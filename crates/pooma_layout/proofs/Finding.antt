@@ -1,13 +1,13 @@
 -- The part of an axis at a place, as its ends are found.
-use Rattle.std.proofs.Common.{refl, sym, ap, ◌∙◌, subst, ⊎_elim, arith, get_or, take}
+use Rattle.std.proofs.Common.{sym, ap, ◌∙◌, subst, ⊎_elim, arith, get_or, take}
 use Rattle.std.proofs.lemmas.Bool.{cases_eq}
 use Rattle.std.proofs.lemmas.Int.{ints, by_lt_z}
 use Rattle.std.proofs.lemmas.List.{get_or_default, get_or-take}
 use Rattle.std.proofs.lemmas.List.Sums.{prefix_len_is}
-use Rattle.std.specs.Prelude.{◌≡◌, ℕ, zero, suc, ◌+◌, ◌-◌, ◌<◌, ◌≤◌, ℤ, pos, ◌+ℤ◌, ◌-ℤ◌, ◌≤ℤ◌, ◌<ℤ◌, int_le, Bool, true, false, Option, Some, None, List, length, map, slice_get, IsSomeAnd}
+use Rattle.std.specs.Prelude.{◌≡◌, ℕ, ◌+◌, ◌-◌, ◌<◌, ◌≤◌, ℤ, pos, ◌-ℤ◌, ◌≤ℤ◌, ◌<ℤ◌, int_le, true, false, Option, Some, None, List, length, slice_get, IsSomeAnd}
 use Rattle.std.specs.List.Sorted.{IsPartitionedBy, IsPartitionPoint}
 use Rattle.pooma_domain.specs.Cells.{Interval, interval}
-use Rattle.pooma_layout.specs.Axes.{CutAxis, total_axis, cut_at, parts, part_of, IsAscending, IsCutAxis}
+use Rattle.pooma_layout.specs.Axes.{CutAxis, total_axis, parts, part_of, IsAscending, IsCutAxis}
 use Rattle.pooma_layout.proofs.Allocating.{part_within}
 use Rattle.pooma_layout.proofs.Cutting.{begin_at, end_at, begin_after_first, end_at_border, end_at_last, length-cut_at, slice_get-cut_at}
 
@@ -63,10 +63,10 @@ borders_part borders x ascending = λ i j d le within h.
     ⊎_elim
     (λ same. rw same h)
     (λ other.
-        let below : get_or borders i d <ℤ get_or borders j d = ascending i j d (omega (arith, other)) within in
-        by_lt_z x (get_or borders i d)
-        (λ above. grind (arith, ints))
-        (λ up. grind (arith, ints)))
+    let below : get_or borders i d <ℤ get_or borders j d = ascending i j d (omega (arith, other)) within in
+    by_lt_z x (get_or borders i d)
+    (λ above. grind (arith, ints))
+    (λ up. grind (arith, ints)))
     (cases_eq i j)
 
 pub counted_borders : (borders : List ℤ) (x : ℤ) (n : ℕ) → n ≤ length borders → IsPartitionPoint (λ border. int_le border x ≡ true) (λ border. int_le border x ≡ false) borders n → n ≡ part_of borders x

@@ -1,11 +1,11 @@
 -- A layout that is made axis by axis.
-use Rattle.std.proofs.Common.{refl, sym, ap, ◌∙◌, subst, arith, get_or, take, replicate, Vec, Global}
+use Rattle.std.proofs.Common.{refl, sym, ap, ◌∙◌, subst, arith, take, replicate, Vec, Global}
 use Rattle.std.proofs.lemmas.Int.{ints}
-use Rattle.std.proofs.lemmas.List.{map_push, take_more, take_all, length-map, length-append, length-replicate, length_push}
+use Rattle.std.proofs.lemmas.List.{map_push, take_more, take_all, length-map, length-append, length-replicate}
 use Rattle.std.proofs.lemmas.List.Elements.{All-push, All-nil}
 use Rattle.std.proofs.lemmas.Nat.{mod_below}
 use Rattle.std.proofs.lemmas.Option.{slice_get_within, get_or_from_slice_get}
-use Rattle.std.specs.Prelude.{◌≡◌, ℕ, zero, suc, ◌+◌, ◌-◌, ◌*◌, ◌/◌, ◌%◌, ◌<◌, ◌≤◌, ℤ, pos, negsuc, ◌≤ℤ◌, unsigned_abs, ◌^◌, Some, List, [], ◌∷◌, ◌++◌, length, map, slice_get, All}
+use Rattle.std.specs.Prelude.{◌≡◌, ℕ, zero, suc, ◌+◌, ◌-◌, ◌*◌, ◌/◌, ◌%◌, ◌<◌, ◌≤◌, ℤ, pos, negsuc, unsigned_abs, ◌^◌, Some, List, [], ◌∷◌, ◌++◌, length, map, slice_get, All}
 use Rattle.std.specs.List.{AllZip}
 use Rattle.std.specs.Int.{w32}
 use lib.Dec.{T}
@@ -14,7 +14,7 @@ use mir.Val.{Fits}
 use Rattle.pooma_domain.specs.Cells.{Interval, axis_length, count_of}
 use Rattle.pooma_domain.specs.Operations.{each_of}
 use Rattle.pooma_layout.specs.Axes.{CutAxis, cut_at, parts, IsCutAxis}
-use Rattle.pooma_layout.specs.Blocks.{part_lengths, block_lengths, blocks_of, product, IsPartCount}
+use Rattle.pooma_layout.specs.Blocks.{part_lengths, blocks_of, product, IsPartCount}
 use Rattle.pooma_layout.specs.Patches.{physical_of, internal_of, external_of, borders_of, owned_boxes, IsLayout}
 use Rattle.pooma_layout.proofs.Cutting.{length-cut_at}
 use Rattle.pooma_layout.proofs.Choices.{length-boxes_of}

@@ -3,11 +3,11 @@ use Rattle.std.proofs.Common.{refl, sym, ap, ◌∙◌, subst, arith}
 use Rattle.std.proofs.lemmas.Int.{ints}
 use Rattle.std.proofs.lemmas.List.Elements.{All-head, All-tail}
 use Rattle.std.proofs.Math.Nat.{mod-add-div}
-use Rattle.std.specs.Prelude.{◌≡◌, ℕ, zero, suc, ◌+◌, ◌*◌, ◌/◌, ◌%◌, ◌<◌, ◌≤◌, ℤ, pos, ◌-ℤ◌, ◌+ℤ◌, ◌≤ℤ◌, ◌<ℤ◌, Option, Some, None, List, [], ◌∷◌, length, map, slice_get, All, IsSomeAnd}
-use Rattle.pooma_domain.specs.Cells.{Interval, interval, IsIn}
-use Rattle.pooma_layout.specs.Axes.{CutAxis, total_axis, cut_at, parts, part_of, IsCutAxis}
-use Rattle.pooma_layout.specs.Patches.{boxes_of, owned_boxes, total_of, Owns, owner_of, HaveSameParts}
-use Rattle.pooma_layout.proofs.Cutting.{Cut, cut_from_borders, cut_wider, cut_is_ordered, interval_within, part_has, only_part_has}
+use Rattle.std.specs.Prelude.{◌≡◌, ℕ, zero, suc, ◌+◌, ◌*◌, ◌/◌, ◌%◌, ℤ, ◌≤ℤ◌, Option, Some, None, List, [], ◌∷◌, length, map, slice_get, All, IsSomeAnd}
+use Rattle.pooma_domain.specs.Cells.{Interval, IsIn}
+use Rattle.pooma_layout.specs.Axes.{CutAxis, total_axis, parts, part_of, IsCutAxis}
+use Rattle.pooma_layout.specs.Patches.{owned_boxes, total_of, Owns, owner_of, HaveSameParts}
+use Rattle.pooma_layout.proofs.Cutting.{Cut, cut_from_borders, cut_wider, interval_within, part_has, only_part_has}
 use Rattle.pooma_layout.proofs.Choices.{slice_get-boxes_of, box_at_place}
 
 some_from : {A : Type 0} (P : A → Type 0) (o : Option A) → IsSomeAnd o P → (x : A) × (o ≡ Some x) × P x

@@ -1,17 +1,17 @@
 -- What holds of all axes of a layout, from what holds of the first and of the later ones.
 use Rattle.std.proofs.Common.{refl, sym, ap, ◌∙◌, subst, arith, get_or, take, drop}
-use Rattle.std.proofs.lemmas.Int.{ints, clamps}
-use Rattle.std.proofs.lemmas.List.{take_all, length-map}
+use Rattle.std.proofs.lemmas.Int.{ints}
+use Rattle.std.proofs.lemmas.List.{take_all}
 use Rattle.std.proofs.lemmas.List.Elements.{All-head, All-tail, All-cons, All-nil}
 use Rattle.std.proofs.lemmas.List.Sums.{sum_by-cons, sum_by-append}
 use Rattle.std.proofs.lemmas.Nat.{mul-le}
 use Rattle.std.proofs.lemmas.Option.{slice_get-map, slice_get_within}
 use Rattle.std.proofs.Math.Nat.{mod-add-div}
-use Rattle.std.specs.Prelude.{◌≡◌, ℕ, zero, suc, ◌+◌, ◌-◌, ◌*◌, ◌/◌, ◌%◌, ◌<◌, ◌≤◌, ℤ, ◌≤ℤ◌, Option, Some, None, List, [], ◌∷◌, ◌++◌, length, map, flat_map, sum_by, slice_get, All, IsSomeAnd}
+use Rattle.std.specs.Prelude.{◌≡◌, ℕ, zero, suc, ◌+◌, ◌-◌, ◌*◌, ◌/◌, ◌%◌, ◌<◌, ◌≤◌, ℤ, ◌≤ℤ◌, Option, Some, None, List, [], ◌∷◌, length, map, flat_map, sum_by, slice_get, All, IsSomeAnd}
 use Rattle.std.specs.Option.{option_map}
-use Rattle.pooma_domain.specs.Cells.{Interval, interval, axis_length, cells_of, IsIn, IsAxis, IsBox}
+use Rattle.pooma_domain.specs.Cells.{Interval, axis_length, cells_of, IsIn, IsBox}
 use Rattle.pooma_layout.specs.Axes.{CutAxis, total_axis, parts, part_of, allocated_part, IsCutAxis}
-use Rattle.pooma_layout.specs.Patches.{physical_of, total_of, boxes_of, owned_boxes, allocated_of, allocated_boxes, allocated_count, owner_of, Owns}
+use Rattle.pooma_layout.specs.Patches.{physical_of, total_of, owned_boxes, allocated_of, allocated_boxes, allocated_count, owner_of}
 use Rattle.pooma_layout.proofs.Allocating.{allocated_holds, allocated_within, part_within}
 use Rattle.pooma_layout.proofs.Choices.{length-boxes_of, slice_get-boxes_of, box_at_place, rest_and_quotient}
 use Rattle.pooma_layout.proofs.Counting.{length_of_interval, length-cells_of, IsShort, short_is_box}
@@ -212,10 +212,9 @@ pub owner_after : (axes : List CutAxis) (first : CutAxis) (later : List CutAxis)
 owner_after axes first later [] xs x split here rest inside = cc
 owner_after axes first later (y ∷ ys) xs x split here rest inside =
     let same : y ≡ x = cc in
-    let all : IsIn (total_of (first ∷ later)) (y ∷ ys) = subst (λ (a : List CutAxis). IsIn (total_of a) (y ∷ ys)) split inside in
-    (
+    let all : IsIn (total_of (first ∷ later)) (y ∷ ys) = subst (λ (a : List CutAxis). IsIn (total_of a) (y ∷ ys)) split inside in (
       subst (λ (c : List ℤ). IsIn (total_of later) c) (sym rest) all.2,
       ap (λ (v : ℤ). part_of first.borders v + length (parts first) * owner_of later xs) (sym same)
-      ∙ ap (λ (v : List ℤ). part_of first.borders y + length (parts first) * owner_of later v) rest
-      ∙ ap (λ (a : List CutAxis). owner_of a (y ∷ ys)) (sym split),
+          ∙ ap (λ (v : List ℤ). part_of first.borders y + length (parts first) * owner_of later v) rest
+          ∙ ap (λ (a : List CutAxis). owner_of a (y ∷ ys)) (sym split),
     )

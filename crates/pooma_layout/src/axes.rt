@@ -121,7 +121,13 @@ impl AxisParts {
     pub(crate) fn copied(&self, alloc: Global) -> Result<AxisParts, AllocError>
         ensures { IfOk result (λ made. made ≡ self.now) }
     {
-        AxisParts::cut(alloc, self.physical, &self.borders, self.internal, self.external)
+        AxisParts::cut(
+            alloc,
+            self.physical,
+            &self.borders,
+            self.internal,
+            self.external,
+        )
     }
 
     /// The axis without its guards.

@@ -1,9 +1,7 @@
-use Rattle.std.proofs.Common.{arith, rules, ap, sym, refl, subst, ◌≡◌, ◌∷◌, ◌∙◌, List, take, drop, length, ◌-◌, ◌<◌, ◌≤◌, ◌*◌, ◌+◌, ◌/◌, ◌%◌, ◌^◌, map, ℕ}
-use Rattle.pooma_domain.specs.Cells.{Interval, IsBox, IsIn, axis_length}
-use Rattle.pooma_domain.specs.Axes.{interval_of}
-use Rattle.std.specs.Prelude.{All, sum_by, Some, slice_get, ℤ, ◌≤ℤ◌}
-use Rattle.pooma_layout.specs.Axes.{CutAxis, IsCutAxis, parts, allocated_part, total_axis}
-use Rattle.pooma_layout.specs.Patches.{physical_of, total_of, owned_boxes, allocated_boxes, allocated_count, owner_of}
+use Rattle.std.proofs.Common.{arith, rules, ap, sym, ◌∙◌, length, ◌*◌, map}
+use Rattle.pooma_domain.specs.Cells.{axis_length}
+use Rattle.std.specs.Prelude.{sum_by}
+use Rattle.pooma_layout.specs.Axes.{parts, allocated_part}
 use Rattle.pooma_layout.proofs.Counting.{power_step, power_fits}
 use Rattle.pooma_layout.proofs.Stepping.{first_and_later, fewer, allocated_product}
 use Rattle.pooma_layout.proofs.patches.+allocated_cells.Goals as goal

@@ -1,17 +1,14 @@
-use Rattle.std.proofs.Common.{arith, rules, ap, sym, refl, subst, ◌≡◌, ◌∷◌, ◌∙◌, List, take, drop, length, ◌-◌, ◌<◌, ◌≤◌, ◌*◌, ◌+◌, ◌/◌, ◌%◌, ◌^◌, map, ℕ}
-use Rattle.pooma_domain.specs.Cells.{Interval, IsBox, IsIn, axis_length}
+use Rattle.std.proofs.Common.{arith, rules, ap, sym, ◌≡◌, ◌∷◌, ◌∙◌, length}
 use Rattle.pooma_domain.specs.Axes.{interval_of}
-use Rattle.std.specs.Prelude.{All, sum_by, Some, slice_get, ℤ, ◌≤ℤ◌}
-use Rattle.pooma_layout.specs.Axes.{CutAxis, IsCutAxis, parts, allocated_part, total_axis}
-use Rattle.pooma_layout.specs.Patches.{physical_of, total_of, owned_boxes, allocated_boxes, allocated_count, owner_of}
+use Rattle.std.specs.Prelude.{Some, slice_get}
+use Rattle.pooma_layout.specs.Patches.{owned_boxes}
 use Rattle.pooma_layout.proofs.Stepping.{first_and_later, first_valid, patch_splits, owned_after, within_is_box, owned_within}
 use Rattle.pooma_layout.proofs.patches.+owned.Goals as goal
 
 pub owned-requires : goal.owned-requires
 owned-requires t c =
     let split = first_and_later c.args.axes.now c.first-item.result c.in-len1-up.len_at_least c.first-item.is in
-    let place = patch_splits c.args.axes.now c.first-item.result _ c.args.p c.parts-parts.result split c.parts-parts.ensures.value c.requires.there in
-    (
+    let place = patch_splits c.args.axes.now c.first-item.result _ c.args.p c.parts-parts.result split c.parts-parts.ensures.value c.requires.there in (
       search rules,
       (
         (first_valid c.args.axes.now c.first-item.result _ split c.requires.valid).1,

@@ -1,18 +1,16 @@
-use Rattle.std.proofs.Common.{arith, rules, ap, sym, refl, subst, ◌≡◌, ◌∷◌, ◌∙◌, List, take, drop, length, ◌-◌, ◌<◌, ◌≤◌, ◌*◌, ◌+◌, ◌/◌, ◌%◌, ◌^◌, map, ℕ}
-use Rattle.pooma_domain.specs.Cells.{Interval, IsBox, IsIn, axis_length}
-use Rattle.pooma_domain.specs.Axes.{interval_of}
+use Rattle.std.proofs.Common.{arith, rules, ap, ◌≡◌, ◌∷◌, ◌∙◌, List, drop, length, ◌*◌, ◌+◌, ℕ}
+use Rattle.pooma_domain.specs.Cells.{IsIn}
 use Rattle.std.proofs.lemmas.Int.{to_z-of_z}
 use Rattle.std.specs.Int.{w32}
-use Rattle.std.specs.Prelude.{FitsSigned, All, sum_by, Some, slice_get, ℤ, ◌≤ℤ◌}
-use Rattle.pooma_layout.specs.Axes.{CutAxis, IsCutAxis, parts, allocated_part, total_axis, part_of}
-use Rattle.pooma_layout.specs.Patches.{physical_of, total_of, owned_boxes, allocated_boxes, allocated_count, owner_of}
+use Rattle.std.specs.Prelude.{FitsSigned, Some, slice_get, ℤ}
+use Rattle.pooma_layout.specs.Axes.{CutAxis, parts, part_of}
+use Rattle.pooma_layout.specs.Patches.{total_of, owner_of}
 use Rattle.pooma_layout.proofs.Stepping.{first_and_later, fewer, owner_after, owner_below}
 use Rattle.pooma_layout.proofs.patches.+owner.Goals as goal
 
 pub owner-requires : goal.owner-requires
 owner-requires t c =
-    let split = first_and_later c.args.axes.now c.first-item.result c.in-len1-up.len_at_least c.first-item.is in
-    (
+    let split = first_and_later c.args.axes.now c.first-item.result c.in-len1-up.len_at_least c.first-item.is in (
       search rules,
       (
         (owner_after c.args.axes.now c.first-item.result _ c.args.c.now c.rest.result c.at.result split c.at.ensures c.rest.ensures c.requires.inside).0,

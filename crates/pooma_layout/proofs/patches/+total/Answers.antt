@@ -1,9 +1,8 @@
-use Rattle.std.proofs.Common.{arith, rules, ap, sym, refl, subst, ◌≡◌, ◌∷◌, ◌∙◌, List, take, drop, length, ◌-◌, ◌<◌, ◌≤◌, ◌*◌, ◌+◌, ◌/◌, ◌%◌, ◌^◌, map, ℕ}
-use Rattle.pooma_domain.specs.Cells.{Interval, IsBox, IsIn, axis_length}
+use Rattle.std.proofs.Common.{ap, sym, subst, ◌≡◌, ◌∷◌, ◌∙◌}
+use Rattle.pooma_domain.specs.Cells.{IsBox}
 use Rattle.pooma_domain.specs.Axes.{interval_of}
-use Rattle.std.specs.Prelude.{All, sum_by, Some, slice_get, ℤ, ◌≤ℤ◌}
-use Rattle.pooma_layout.specs.Axes.{CutAxis, IsCutAxis, parts, allocated_part, total_axis}
-use Rattle.pooma_layout.specs.Patches.{physical_of, total_of, owned_boxes, allocated_boxes, allocated_count, owner_of}
+use Rattle.pooma_layout.specs.Axes.{total_axis}
+use Rattle.pooma_layout.specs.Patches.{total_of}
 use Rattle.pooma_layout.proofs.Stepping.{first_and_later, within_is_box, total_within}
 use Rattle.pooma_layout.proofs.patches.+total.Goals as goal
 

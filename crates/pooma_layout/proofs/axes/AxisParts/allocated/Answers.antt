@@ -1,7 +1,7 @@
-use Rattle.std.proofs.Common.{arith, ◌≤◌, ap, ◌∙◌}
+use Rattle.std.proofs.Common.{arith, ap, ◌∙◌}
 use Rattle.std.proofs.lemmas.Int.{ints, clamps}
 use Rattle.std.proofs.lemmas.Option.{slice_get-map}
-use Rattle.std.specs.Prelude.{◌≤ℤ◌, ◌≡◌, Some}
+use Rattle.std.specs.Prelude.{◌≤ℤ◌, Some}
 use Rattle.pooma_domain.specs.Axes.{interval_of}
 use Rattle.pooma_domain.specs.Cells.{Interval}
 use Rattle.pooma_layout.specs.Axes.{total_axis, allocated_part, parts}

@@ -1,6 +1,5 @@
-use Rattle.std.proofs.Common.{arith, ◌≡◌, ◌+◌, ◌<◌, ◌≤◌, ◌^◌, length, map, take, ap, ◌∙◌}
+use Rattle.std.proofs.Common.{arith, map}
 use Rattle.std.proofs.lemmas.List.Sums.{sum_by-take-le}
-use Rattle.std.specs.Prelude.{sum_by}
 use Rattle.pooma_domain.specs.Axes.{interval_of}
 use Rattle.pooma_domain.specs.Cells.{axis_length}
 use Rattle.pooma_layout.specs.Axes.{allocated_part, parts}

@@ -1,4 +1,4 @@
-use Rattle.std.proofs.Common.{arith, ap, sym, ◌∙◌, length, get_or, take, ◌≡◌, ◌<◌, ◌-◌}
+use Rattle.std.proofs.Common.{arith, ap, sym, length, get_or, take, ◌≡◌, ◌-◌}
 use Rattle.std.proofs.lemmas.Int.{ints}
 use Rattle.std.proofs.lemmas.List.{length-take-le}
 use Rattle.pooma_domain.specs.Cells.{Interval}

@@ -1,6 +1,6 @@
-use Rattle.std.proofs.Common.{arith, rules, ap, sym, ◌∙◌, length, get_or, ◌<◌, ◌≡◌}
+use Rattle.std.proofs.Common.{arith, rules, ap, ◌∙◌, length, get_or, ◌<◌, ◌≡◌}
 use Rattle.std.proofs.lemmas.Int.{ints}
-use Rattle.std.specs.Prelude.{ℤ, pos, FitsSigned}
+use Rattle.std.specs.Prelude.{FitsSigned}
 use Rattle.std.specs.Int.{w32}
 use Rattle.pooma_domain.specs.Cells.{Interval}
 use Rattle.pooma_layout.specs.Axes.{IsBorder}

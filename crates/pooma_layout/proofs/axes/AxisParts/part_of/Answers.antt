@@ -1,7 +1,6 @@
-use Rattle.std.proofs.Common.{ap, sym, subst, ◌∙◌, rules, of_calls, ℤ}
+use Rattle.std.proofs.Common.{ap, ◌∙◌, rules, of_calls, ℤ}
 use Rattle.std.proofs.lemmas.List.Sorted.{IsPartitionPoint-from_clause}
-use Rattle.std.specs.Prelude.{int_le, true, false, length, ◌≤◌, ◌≡◌}
-use Rattle.std.specs.List.Sorted.{IsPartitionPoint}
+use Rattle.std.specs.Prelude.{int_le}
 use Rattle.pooma_layout.specs.Axes.{part_of}
 use Rattle.pooma_layout.proofs.Finding.{borders_part, counted_borders}
 use Rattle.pooma_layout.proofs.axes.AxisParts.part_of.Goals as goal

@@ -1,4 +1,4 @@
-use Rattle.std.proofs.Common.{arith, ap, length}
+use Rattle.std.proofs.Common.{arith, length}
 use Rattle.pooma_layout.proofs.Counting.{power_fits}
 use Rattle.pooma_layout.proofs.layouts.Layout.allocated_cells.Goals as goal
 

@@ -1,13 +1,12 @@
-use Rattle.std.proofs.Common.{arith, rules, refl, ap, sym, subst, ◌≡◌, ◌∙◌, ◌<◌, ◌≤◌, ◌+◌, length, map, take, List, Vec, Global}
-use Rattle.std.proofs.lemmas.Int.{ints, to_z-of_z}
+use Rattle.std.proofs.Common.{arith, rules, refl, ap, sym, subst, ◌≡◌, ◌∙◌, ◌≤◌, length, map, Vec, Global}
+use Rattle.std.proofs.lemmas.Int.{to_z-of_z}
 use Rattle.std.proofs.lemmas.List.{length-map}
 use Rattle.std.proofs.lemmas.Option.{slice_get_read, slice_get-map}
 use Rattle.std.specs.Prelude.{ℤ, FitsSigned, Some, slice_get}
 use Rattle.std.specs.Option.{option_map}
 use Rattle.std.specs.Int.{w32}
 use Rattle.pooma_domain.specs.Axes.{interval_of}
-use Rattle.pooma_domain.specs.Cells.{Interval, axis_length}
-use Rattle.pooma_layout.specs.Axes.{CutAxis, IsNear, IsDepth, IsCovering, IsAscending, AreBorders}
+use Rattle.pooma_layout.specs.Axes.{IsNear, IsDepth, IsCovering, IsAscending, AreBorders}
 use Rattle.pooma_layout.specs.Blocks.{product}
 use Rattle.pooma_layout.proofs.Making.{all_at, all_zip_at, all_of, length_of_zip, cuts_more, cuts_patches, is_layout, same_axis, lengths_of_lists}
 use Rattle.pooma_layout.proofs.layouts.Layout.cuts.Goals as goal

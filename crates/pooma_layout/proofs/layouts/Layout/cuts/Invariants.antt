@@ -1,5 +1,4 @@
 use Rattle.std.proofs.Common.{map}
-use Rattle.std.specs.Prelude.{ℤ}
 use Rattle.pooma_layout.proofs.Making.{CutsTo}
 use Rattle.pooma_layout.proofs.layouts.Layout.cuts.Given as goal
 

@@ -1,9 +1,9 @@
-use Rattle.std.proofs.Common.{arith, rules, refl, ap, sym, subst, ◌≡◌, ◌∙◌, ◌<◌, ◌≤◌, length, map, take, List}
+use Rattle.std.proofs.Common.{arith, rules, ap, ◌∙◌, ◌≤◌, length}
 use Rattle.std.proofs.lemmas.Int.{ints, to_z-of_z}
-use Rattle.std.specs.Prelude.{ℤ, FitsSigned}
+use Rattle.std.specs.Prelude.{FitsSigned}
 use Rattle.std.specs.Int.{w32}
 use Rattle.pooma_domain.specs.Axes.{interval_of}
-use Rattle.pooma_domain.specs.Cells.{Interval, axis_length, count_of}
+use Rattle.pooma_domain.specs.Cells.{axis_length}
 use Rattle.pooma_domain.specs.Operations.{each_of}
 use Rattle.pooma_layout.specs.Axes.{IsNear, IsDepth, IsCovering}
 use Rattle.pooma_layout.specs.Blocks.{IsPartCount, block_lengths, blocks_of}
