@@ -1,4 +1,6 @@
 pub mod Values
 pub mod Trees
 pub mod Reads
+pub mod Code
+pub mod Machine
 pub mod Reductions

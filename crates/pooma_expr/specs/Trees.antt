@@ -6,37 +6,41 @@ use Rattle.pooma_expr.specs.declared.tree.Expr.TheOpen.{Expr-F}
 use Rattle.pooma_expr.specs.declared.tree.Expr.TheViews.{roll-Expr}
 use Rattle.pooma_expr.specs.declared.tree.Expr.TheFolds.{fold-Expr}
 
--- a list of an expression, where those of its operands are known: what a leaf gives, and what the operands have, in their order
-abbrev pub listed_by : {A : Type 0} → (Expr-F (List A) → List A) → Expr-F (List A) → List A
-listed_by leaf (Expr-F.Neg a) = a
-listed_by leaf (Expr-F.Abs a) = a
-listed_by leaf (Expr-F.Bin o a b) = a ++ b
-listed_by leaf (Expr-F.Where c a b) = c ++ (a ++ b)
-listed_by leaf e = leaf e
-
-abbrev pub views_at : Expr-F (List Viewed) → List Viewed
-views_at (Expr-F.Read v) = v ∷ []
-views_at e = []
-
-abbrev pub scalars_at : Expr-F (List ℕ) → List ℕ
-scalars_at (Expr-F.Scalar number) = number ∷ []
-scalars_at e = []
-
-abbrev pub axes_at : Expr-F (List ℕ) → List ℕ
-axes_at (Expr-F.Index axis) = axis ∷ []
-axes_at e = []
+abbrev pub views_by : Expr-F (List Viewed) → List Viewed
+views_by (Expr-F.Read v) = v ∷ []
+views_by (Expr-F.Neg a) = a
+views_by (Expr-F.Abs a) = a
+views_by (Expr-F.Bin o a b) = a ++ b
+views_by (Expr-F.Where c a b) = c ++ (a ++ b)
+views_by e = []
 
 -- the views that an expression reads, in the order of the text
 abbrev pub views_of : Expr → List Viewed
-views_of = fold-Expr (List Viewed) (listed_by views_at)
+views_of = fold-Expr (List Viewed) views_by
 
--- the numbers of the scalars that it has
-abbrev pub scalars_of : Expr → List ℕ
-scalars_of = fold-Expr (List ℕ) (listed_by scalars_at)
+-- the greatest number that the operands need, or that a leaf needs
+abbrev pub greatest_by : (Expr-F ℕ → ℕ) → Expr-F ℕ → ℕ
+greatest_by leaf (Expr-F.Neg a) = a
+greatest_by leaf (Expr-F.Abs a) = a
+greatest_by leaf (Expr-F.Bin o a b) = max a b
+greatest_by leaf (Expr-F.Where c a b) = max c (max a b)
+greatest_by leaf e = leaf e
 
--- the axes on which it asks for the position's number
-abbrev pub axes_of : Expr → List ℕ
-axes_of = fold-Expr (List ℕ) (listed_by axes_at)
+abbrev pub scalars_at : Expr-F ℕ → ℕ
+scalars_at (Expr-F.Scalar number) = number + 1
+scalars_at e = 0
+
+abbrev pub axes_at : Expr-F ℕ → ℕ
+axes_at (Expr-F.Index axis) = axis + 1
+axes_at e = 0
+
+-- how many scalars there have to be, so that each that it has is one of them
+abbrev pub scalars_needed : Expr → ℕ
+scalars_needed = fold-Expr ℕ (greatest_by scalars_at)
+
+-- how many axes a position has to have, so that each on which it asks for the position's number is one of them
+abbrev pub axes_needed : Expr → ℕ
+axes_needed = fold-Expr ℕ (greatest_by axes_at)
 
 abbrev pub depth_by : Expr-F ℕ → ℕ
 depth_by (Expr-F.Neg a) = a + 1

@@ -1,8 +1,15 @@
 //! Expressions over views: what each is worth at a position, the code that finds it, and reductions of many values to one.
 #![tactic(auto)]
 
+mod apply;
+mod binding;
+mod emit;
+mod eval;
+mod limits;
+mod operation;
 mod reads;
 mod reduction;
+mod stack;
 mod tree;
 
 pub use reads::Reads;

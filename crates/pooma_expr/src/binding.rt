@@ -1,0 +1,44 @@
+//! The numbers of scalars put into an expression.
+ghost use Rattle.std.specs.Prelude.{◌≡◌, ◌≤◌, length, IfOk};
+ghost use Rattle.pooma_expr.specs.Trees.{bound, scalars_needed};
+
+use crate::tree::Expr;
+use sqlite_items::Boxed;
+use std::alloc::{AllocError, Global};
+
+/// The expression with the number of each scalar in its place.
+#[cycle(bind)]
+pub(crate) fn bind(alloc: Global, expr: &Expr, scalars: &[i64]) -> Result<Expr, AllocError>
+    requires { scalars_needed expr.now ≤ length scalars.now }
+    ensures { IfOk result (λ e. e ≡ bound scalars.now expr.now) }
+{
+    match expr {
+        Expr::Literal(x) => Ok(Expr::Literal(*x)),
+        Expr::Scalar(number) => Ok(Expr::Literal(scalars[*number as usize])),
+        Expr::Index(axis) => Ok(Expr::Index(*axis)),
+        Expr::Read(view) => Ok(Expr::Read(*view)),
+        Expr::Neg(a) => Ok(Expr::Neg(bind_boxed(alloc, a, scalars)?)),
+        Expr::Abs(a) => Ok(Expr::Abs(bind_boxed(alloc, a, scalars)?)),
+        Expr::Bin(op, a, b) => {
+            let a = bind_boxed(alloc, a, scalars)?;
+            Ok(Expr::Bin(*op, a, bind_boxed(alloc, b, scalars)?))
+        }
+        Expr::Where(c, a, b) => {
+            let c = bind_boxed(alloc, c, scalars)?;
+            let a = bind_boxed(alloc, a, scalars)?;
+            Ok(Expr::Where(c, a, bind_boxed(alloc, b, scalars)?))
+        }
+    }
+}
+
+#[cycle(bind)]
+fn bind_boxed(
+    alloc: Global,
+    expr: &Boxed<Expr>,
+    scalars: &[i64],
+) -> Result<Boxed<Expr>, AllocError>
+    requires { scalars_needed expr.now ≤ length scalars.now }
+    ensures { IfOk result (λ e. e ≡ bound scalars.now expr.now) }
+{
+    Boxed::new(alloc, bind(alloc, expr.get(), scalars)?)
+}
