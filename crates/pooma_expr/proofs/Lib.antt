@@ -1,3 +1,6 @@
 pub mod Runs
 pub mod Trees
 pub mod Choices
+pub mod Correct
+pub mod Bound
+pub mod Kept

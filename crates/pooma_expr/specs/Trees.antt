@@ -53,7 +53,8 @@ depth_by e = 1
 abbrev pub depth_of : Expr → ℕ
 depth_of = fold-Expr ℕ depth_by
 
-abbrev pub bound_by : List ℤ → Expr-F Expr → Expr-F Expr
+-- a literal for a scalar
+abbrev pub bound_by : {A : Type 0} → List ℤ → Expr-F A → Expr-F A
 bound_by scalars (Expr-F.Scalar number) = Expr-F.Literal (slice_index_or scalars number (pos 0))
 bound_by scalars e = e
 

@@ -1,13 +1,54 @@
 //! The value of a code at a position.
-ghost use Rattle.std.specs.Prelude.{◌≡◌, ◌≤◌, [], length, Ok, Err, IfOk, IfErr};
+ghost use Rattle.std.specs.Prelude.{◌≡◌, ℕ, ◌<◌, ◌≤◌, [], length, Ok, Err, IfOk, IfErr};
+ghost use Rattle.pooma_expr.specs.Code.{places_of};
 ghost use Rattle.pooma_expr.specs.Machine.{CanRun, CanStep, outcome, step_of};
+ghost use Rattle.pooma_expr.specs.Reads.{AgreeWith};
+ghost use Rattle.pooma_expr.specs.Trees.{axes_needed, views_of};
+ghost use Rattle.pooma_expr.specs.Values.{Contents, value};
 
 use crate::apply::apply;
+use crate::code::Code;
 use crate::operation::Operation;
 use crate::reads::Reads;
 use crate::stack::Stack;
 use pooma_domain::Cell;
 use pooma_num::{FaultKind, abs, neg};
+
+/// The value of a code at a position: its number, or the fault that is met first from left to right. It takes no memory.
+///
+/// The value is that of the code's expression wherever the reads have at the position what the views' arrays have at the
+/// cells that the views name there.
+pub fn eval_at<R: Reads>(code: &Code, reads: &R, p: &Cell) -> Result<i64, FaultKind>
+    requires axes { axes_needed code.now ≤ length p.now }
+    requires reads { (read : ℕ) → read < length (views_of code.now) → R.can_ask reads.now read p.now }
+    ensures { (has : Contents) → AgreeWith has (views_of code.now) p.now (R.number reads.now) → result ≡ value [] has code.now p.now }
+{
+    let places = code.places();
+    if places <= 4 {
+        eval_in::<R, 4>(code, reads, p)
+    } else if places <= 16 {
+        eval_in::<R, 16>(code, reads, p)
+    } else if places <= 64 {
+        eval_in::<R, 64>(code, reads, p)
+    } else {
+        eval_in::<R, 256>(code, reads, p)
+    }
+}
+
+// The same on a stack of this many places. A short code takes few, so that few are cleared for it.
+fn eval_in<R: Reads, const PLACES: usize>(
+    code: &Code,
+    reads: &R,
+    p: &Cell,
+) -> Result<i64, FaultKind>
+    requires few { PLACES ≤ 256 }
+    requires places { places_of code.now ≤ PLACES }
+    requires axes { axes_needed code.now ≤ length p.now }
+    requires reads { (read : ℕ) → read < length (views_of code.now) → R.can_ask reads.now read p.now }
+    ensures { (has : Contents) → AgreeWith has (views_of code.now) p.now (R.number reads.now) → result ≡ value [] has code.now p.now }
+{
+    run::<R, PLACES>(code.operations(), reads, p)
+}
 
 // Does one operation, and says how many of the next ones are passed over.
 fn step<R: Reads, const PLACES: usize>(

@@ -3,6 +3,7 @@
 
 mod apply;
 mod binding;
+mod code;
 mod emit;
 mod eval;
 mod limits;
@@ -12,6 +13,8 @@ mod reduction;
 mod stack;
 mod tree;
 
+pub use code::Code;
+pub use eval::eval_at;
 pub use reads::Reads;
 pub use reduction::Reduction;
 pub use tree::{Expr, Op};
