@@ -4,3 +4,4 @@ pub mod Choices
 pub mod Correct
 pub mod Bound
 pub mod Kept
+pub mod Joins

@@ -1,5 +1,5 @@
 -- What a reduction makes of a whole list of numbers, and how a part of the list is kept.
-use Rattle.std.specs.Prelude.{◌≡◌, ℕ, Bool, not, ℤ, pos, ◌+ℤ◌, if◌then◌else◌, Ok, List, [], ◌∷◌, length, map, count_by, fold}
+use Rattle.std.specs.Prelude.{◌≡◌, ℕ, Bool, not, ℤ, pos, ◌+ℤ◌, FitsSigned, if◌then◌else◌, Ok, List, [], ◌∷◌, length, count_by, fold}
 use Rattle.std.specs.List.{list_all, list_any}
 use Rattle.std.specs.Int.{w64, int_min, int_max, int_bit_and, int_bit_or}
 use Rattle.std.specs.Ordering.{int_eq}
@@ -32,31 +32,29 @@ result_over of.Count xs = Ok (pos (count_by is_set xs))
 result_over of.BitAnd xs = Ok (join_all (int_bit_and w64) xs)
 result_over of.BitOr xs = Ok (join_all (int_bit_or w64) xs)
 
--- what is kept of a part of the list
+-- what is kept of a part of the list: the sum and how many they are, how many are not 0, and what the reduction joins of them
 pub record Kept : Type 0 where
   pub reduction : Reduction
   pub total : Sum
+  pub set : ℕ
   pub joined : ℤ
 
--- what a number adds to the total: 1 or 0 where the numbers that are not 0 are counted, and else itself
-abbrev pub summand : Reduction → ℤ → ℤ
-summand of.All x = if is_set x then pos 1 else pos 0
-summand of.Any x = if is_set x then pos 1 else pos 0
-summand of.Count x = if is_set x then pos 1 else pos 0
-summand _ x = x
-
--- what is joined of two numbers, where the reduction joins them
+-- what is joined of two numbers; the first, where the reduction does not join them
 abbrev pub join_of : Reduction → ℤ → ℤ → ℤ
 join_of of.Min x y = int_min x y
 join_of of.Max x y = int_max x y
 join_of of.BitAnd x y = int_bit_and w64 x y
 join_of of.BitOr x y = int_bit_or w64 x y
-join_of _ x y = pos 0
+join_of _ x y = x
 
--- what is kept of a list
-abbrev pub kept_of : Reduction → List ℤ → Kept
-kept_of r xs = record { reduction = r; total = record { number = sum_of (map (summand r) xs); count = length xs }; joined = join_all (join_of r) xs }
+-- all are numbers of 64 bits
+abbrev pub AllFit : List ℤ → Type 0
+AllFit [] = Unit {0}
+AllFit (x ∷ xs) = FitsSigned w64 x × AllFit xs
 
 -- what is kept is that of this list
-abbrev pub StandsFor : List ℤ → Kept → Type 0
-StandsFor xs kept = kept ≡ kept_of kept.reduction xs
+pub record StandsFor (xs : List ℤ) (kept : Kept) : Type 0 where
+  pub fit : AllFit xs
+  pub total : kept.total ≡ record { number = sum_of xs; count = length xs }
+  pub set : kept.set ≡ count_by is_set xs
+  pub joined : kept.joined ≡ join_all (join_of kept.reduction) xs

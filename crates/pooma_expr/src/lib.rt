@@ -8,6 +8,7 @@ mod emit;
 mod eval;
 mod limits;
 mod operation;
+mod partial;
 mod reads;
 mod reduction;
 mod stack;
@@ -15,6 +16,7 @@ mod tree;
 
 pub use code::Code;
 pub use eval::eval_at;
+pub use partial::Partial;
 pub use reads::Reads;
 pub use reduction::Reduction;
 pub use tree::{Expr, Op};
