@@ -1,0 +1,7 @@
+pub mod Expressions
+pub mod Forms
+pub mod Languages
+pub mod Lines
+pub mod Lists
+pub mod Names
+pub mod Tokens
