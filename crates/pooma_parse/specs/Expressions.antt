@@ -1,6 +1,8 @@
 -- The expressions of a line and of a stencil's body, one constructor for a case of a production.
 use Rattle.std.specs.Prelude.{◌≡◌, ℕ, zero, suc, max, ℤ, List, [], ◌∷◌, codes, Contains}
 use Rattle.pooma_text.specs.declared.span.Span.{Span}
+use Rattle.pooma_parse.specs.declared.expression.Place.{Place}
+use Rattle.pooma_parse.specs.declared.expression.Place.TheVariants.{InBody, InLine}
 use Rattle.pooma_parse.specs.declared.form.RawExpr.{RawExpr}
 use Rattle.pooma_parse.specs.declared.form.RawExpr.TheVariants as tree
 use Rattle.pooma_parse.specs.declared.form.RawOp.{RawOp}
@@ -9,11 +11,6 @@ use Rattle.pooma_parse.specs.declared.form.RawView.{RawView}
 use Rattle.pooma_parse.specs.Languages.{Language, INT, NUM, SMALL, just, listed, name, nothing, parens, sign, word, ◌⨾◌}
 use Rattle.pooma_parse.specs.Lists.{VIEW}
 use Rattle.pooma_parse.specs.Tokens.{Lexeme}
-
--- where an expression stands: in a line of its own (EXPR), or in the body of a stencil (BODY)
-pub data Place : Type 0 where
-  InLine : Place
-  InBody : Place
 
 -- the productions of expressions, from the loosest operators to the tightest
 pub data Level : Type 0 where

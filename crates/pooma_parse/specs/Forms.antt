@@ -1,12 +1,14 @@
 -- The forms of a line.
 use Rattle.std.specs.Prelude.{◌≡◌, ℕ, ◌≤◌, List, [], ◌∷◌, codes, Contains, Option, None, Some}
 use Rattle.pooma_text.specs.declared.span.Span.{Span}
+use Rattle.pooma_parse.specs.declared.expression.Place.{Place}
+use Rattle.pooma_parse.specs.declared.expression.Place.TheVariants.{InBody, InLine}
 use Rattle.pooma_parse.specs.declared.form.RawExpr.{RawExpr}
 use Rattle.pooma_parse.specs.declared.form.RawLine.{RawLine}
 use Rattle.pooma_parse.specs.declared.form.RawLine.TheVariants as line
 use Rattle.pooma_parse.specs.declared.form.RawSub.{RawSub}
 use Rattle.pooma_parse.specs.declared.form.RawView.{RawView}
-use Rattle.pooma_parse.specs.Expressions.{EXPR, InBody, InLine, Place, Says, nesting}
+use Rattle.pooma_parse.specs.Expressions.{EXPR, Says, nesting}
 use Rattle.pooma_parse.specs.Languages.{Language, SMALL, listed, name, nothing, parens, sign, word, ◌⨾◌}
 use Rattle.pooma_parse.specs.Lists.{BOX, CUTTING, GUARDS, SMALLS, UPDATER, VIEW, assign_text}
 use Rattle.pooma_parse.specs.Tokens.{Lexeme, word_token}

@@ -4,4 +4,5 @@ pub mod Languages
 pub mod Lines
 pub mod Lists
 pub mod Names
+pub mod Reader
 pub mod Tokens

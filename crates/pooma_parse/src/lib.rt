@@ -4,8 +4,14 @@
 #![tactic(auto)]
 
 mod cursor;
+mod error;
+mod expression;
 mod form;
+mod lists;
+mod names;
+mod view;
 
+pub use error::LineError;
 pub use form::{
     RawAssign, RawCutting, RawExpr, RawLine, RawList, RawOp, RawSub, RawView, Updater4,
 };
