@@ -17,9 +17,16 @@ abbrev pub just : List Lexeme → Language
 just some tokens = tokens ≡ some
 
 -- the one, and behind it the other
+pub record Then (A B : Language) (tokens : List Lexeme) : Type 0 where
+  pub front : List Lexeme
+  pub back : List Lexeme
+  pub one : A front
+  pub other : B back
+  pub whole : tokens ≡ front ++ back
+
 infixr 20 ◌⨾◌
 abbrev pub ◌⨾◌ : Language → Language → Language
-(A ⨾ B) tokens = (front : List Lexeme) × (back : List Lexeme) × A front × B back × (tokens ≡ front ++ back)
+A ⨾ B = Then A B
 
 abbrev pub sign : List ℕ → Language
 sign text tokens = (span : Span) × (tokens ≡ sign_token text span ∷ [])

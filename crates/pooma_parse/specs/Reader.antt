@@ -10,6 +10,8 @@ use Rattle.pooma_parse.specs.declared.error.LineError.{LineError}
 use Rattle.pooma_parse.specs.declared.error.LineError.TheVariants.{Syntax, OutOfMemory}
 use Rattle.pooma_parse.specs.declared.expression.Place.{Place}
 use Rattle.pooma_parse.specs.declared.expression.Place.TheVariants.{InBody, InLine}
+use Rattle.pooma_parse.specs.declared.expression.Chained.{Chained}
+use Rattle.pooma_parse.specs.declared.expression.Chained.TheVariants as chained
 use Rattle.pooma_parse.specs.declared.form.RawAssign.{RawAssign}
 use Rattle.pooma_parse.specs.declared.form.RawAssign.TheVariants as assign
 use Rattle.pooma_parse.specs.declared.form.RawCutting.{RawCutting}
@@ -40,6 +42,12 @@ abbrev pub Reads : {A : Type 0} → Reader A → List Lexeme → Result A LineEr
 Reads p old (Ok v) new = p old ≡ Some (v, new)
 Reads p old (Err Syntax) new = p old ≡ None
 Reads p old (Err OutOfMemory) new = Unit {0}
+
+-- The value, or want of memory.
+abbrev pub Makes : {A : Type 0} → A → Result A LineError → Type 0
+Makes v (Ok made) = made ≡ v
+Makes v (Err Syntax) = ⊥
+Makes v (Err OutOfMemory) = Unit {0}
 
 abbrev pub and_then : {A B : Type 0} → Option (A × List Lexeme) → (A → Reader B) → Option (B × List Lexeme)
 and_then None f = None
@@ -92,7 +100,7 @@ abbrev pub expect_word : List ℕ → Reader (Unit {0})
 expect_word = expect Word
 
 unfoldable pub is_reserved : List ℕ → Bool
-is_reserved text = list_any (λ word. bytes_eq word text) reserved_words
+is_reserved text = list_any (bytes_eq text) reserved_words
 
 unfoldable pub begins_name : List Lexeme → Bool
 begins_name [] = false
@@ -245,8 +253,24 @@ read_compare unary = read_compared (read_add unary)
 abbrev pub read_and : Reader RawExpr → Reader RawExpr
 read_and unary = read_repeated AND (read_compare unary)
 
-unfoldable pub read_expr : Reader RawExpr → Reader RawExpr
+abbrev pub read_expr : Reader RawExpr → Reader RawExpr
 read_expr unary = read_repeated EXPR (read_and unary)
+
+-- the level of a production whose operators may be repeated, and how it and its operands are read
+abbrev pub level_of : Chained → Level
+level_of chained.Expr = EXPR
+level_of chained.And = AND
+level_of chained.Add = ADD
+level_of chained.Mul = MUL
+
+abbrev pub read_operand : Chained → Reader RawExpr → Reader RawExpr
+read_operand chained.Expr unary = read_and unary
+read_operand chained.And unary = read_compare unary
+read_operand chained.Add unary = read_mul unary
+read_operand chained.Mul unary = unary
+
+abbrev pub read_level : Chained → Reader RawExpr → Reader RawExpr
+read_level level unary = read_repeated (level_of level) (read_operand level unary)
 
 unfoldable pub read_both : RawOp → Reader RawExpr → Reader RawExpr
 read_both op inner = do
@@ -288,13 +312,14 @@ read_named deep = read_name >>= (λ name tokens. if begins_sign (codes "(") toke
     then (if deep then and_then (read_parens read_view tokens) (λ seen. pure (tree.Apply name seen)) else None)
     else and_then (read_brackets tokens) (λ subs. pure (tree.View (record { name = name; subs = subs }))))
 
-abbrev pub is_line : Place → Bool
-is_line InLine = true
-is_line InBody = false
+-- whether a name comes next, which only a line may have in its expressions
+abbrev pub begins_named : Place → List Lexeme → Bool
+begins_named InLine tokens = begins_name tokens
+begins_named InBody tokens = false
 
 unfoldable pub read_primary : Place → Bool → Reader RawExpr → Reader RawExpr
 read_primary place deep inner = λ tokens. if begins_number tokens then and_then (read_number MOST_NUM tokens) (λ n. pure (tree.Number n))
-    else (if is_line place && begins_name tokens then read_named deep tokens
+    else (if begins_named place tokens then read_named deep tokens
     else (if deep then read_nested place inner tokens else None))
 
 unfoldable pub read_unary : Place → Bool → Reader RawExpr → Reader RawExpr → Reader RawExpr
@@ -409,7 +434,7 @@ read_scalar = do
 
 unfoldable pub begins_reduction : List Lexeme → Bool
 begins_reduction [] = false
-begins_reduction (t ∷ tokens) = same_kind t.kind Word && list_any (λ word. bytes_eq word t.text) reductions
+begins_reduction (t ∷ tokens) = same_kind t.kind Word && list_any (bytes_eq t.text) reductions
 
 unfoldable pub read_reduction_word : Reader Span
 read_reduction_word = λ tokens. if begins_reduction tokens then span_of tokens tokens else None

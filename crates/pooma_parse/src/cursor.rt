@@ -85,7 +85,7 @@ impl<'a> Cursor<'a> {
     }
 
     /// Goes past the first token, where there is one.
-    fn step(&mut self)
+    pub fn step(&mut self)
         ensures { self.new ≡ reader.behind self.old }
     {
         if let [_, rest @ ..] = self.tokens {

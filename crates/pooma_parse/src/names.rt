@@ -57,7 +57,7 @@ pub fn is_reserved(word: &[u8]) -> bool
 
 /// Whether a word is one of a list of words.
 fn is_among(words: &[&[u8]], word: &[u8]) -> bool
-    ensures { result ≡ list_any (λ other. bytes_eq other.now word.now) words.now }
+    ensures { result ≡ list_any (λ other. bytes_eq word.now other.now) words.now }
 {
-    words.iter().any(|other| *other == word)
+    words.iter().any(|other| word == *other)
 }
