@@ -50,11 +50,14 @@ UPDATER Reflect = word (codes "reflect")
 UPDATER Antireflect = word (codes "antireflect")
 UPDATER Extrapolate = word (codes "extrapolate")
 
--- INT, or INT `:` INT with the stride 1, or INT `:` INT `:` INT
+-- [ `:` INT ], which is 1 where it is left out
+abbrev pub STRIDE : ℤ → Language
+STRIDE stride tokens = ((stride ≡ pos 1) × nothing tokens) ⊎ (sign (codes ":") ⨾ INT stride) tokens
+
+-- INT, or INT `:` INT, or INT `:` INT `:` INT
 abbrev pub SUB : RawSub → Language
-SUB (At n) tokens = INT n tokens
-SUB (Range first last stride) tokens = ((stride ≡ pos 1) × RANGE (first, last) tokens)
-    ⊎ (INT first ⨾ sign (codes ":") ⨾ INT last ⨾ sign (codes ":") ⨾ INT stride) tokens
+SUB (At n) = INT n
+SUB (Range first last stride) = INT first ⨾ sign (codes ":") ⨾ INT last ⨾ STRIDE stride
 
 -- what may stand behind the name of a view: nothing, or `[` SUB { `,` SUB } `]`
 abbrev pub BRACKETS : Option (List RawSub) → Language

@@ -1,12 +1,12 @@
 //! The tokens of a line that are not read yet.
-ghost use Rattle.std.specs.Prelude.{◌≡◌, ◌≤◌, ◌<◌, ◌^◌, ◌≤ℤ◌, ◌-ℤ◌, pos, length, if◌then◌else◌, map, All, IfOk};
+ghost use Rattle.std.specs.Prelude.{◌≡◌, ◌≤◌, ◌<◌, ◌^◌, ◌≤ℤ◌, ◌-ℤ◌, pos, length, if◌then◌else◌, map, All, IfOk, OnOk, []};
 ghost use Rattle.pooma_text.specs.Tokens.{IsLongest};
 ghost use Rattle.pooma_parse.specs.Tokens.{lexeme_of};
 ghost use Rattle.pooma_parse.specs.Reader as reader;
 ghost use Rattle.pooma_parse.specs.Reader.{Reads};
 
 use crate::error::LineError;
-use crate::names::is_reserved;
+use crate::names::{is_reduction, is_reserved};
 use pooma_text::{Span, Token, TokenKind, number};
 use std::marker::Model;
 
@@ -169,7 +169,7 @@ impl<'a> Cursor<'a> {
 
     /// The part of the line that the next token is.
     #[tactic(auto, unfolding(crate::specs::Reader::span_of))]
-    pub fn span(&mut self) -> Result<Span, LineError>
+    fn span(&mut self) -> Result<Span, LineError>
         ensures { Reads (reader.span_of self.old) self.old result self.new }
     {
         let [first, rest @ ..] = self.tokens else {
@@ -243,5 +243,42 @@ impl<'a> Cursor<'a> {
     {
         let value = self.signed(MOST_SMALL)?;
         Ok(value as i32)
+    }
+
+    /// Whether the word of a reduction comes next.
+    #[tactic(auto, unfolding(crate::specs::Reader::begins_reduction))]
+    fn begins_reduction(&self) -> bool
+        ensures { result ≡ reader.begins_reduction self.now }
+    {
+        match self.tokens {
+            [] => false,
+            [first, ..] => {
+                same_kind(first.kind, TokenKind::Word)
+                    && is_reduction(&self.line[first.span.start..first.span.end])
+            }
+        }
+    }
+
+    /// The word of a reduction, as the part of the line that it is.
+    #[tactic(auto, unfolding(crate::specs::Reader::read_reduction_word))]
+    pub fn reduction(&mut self) -> Result<Span, LineError>
+        ensures { Reads reader.read_reduction_word self.old result self.new }
+    {
+        if !self.begins_reduction() {
+            return Err(LineError::Syntax);
+        }
+        self.span()
+    }
+
+    /// The line's end.
+    #[tactic(auto, unfolding(crate::specs::Reader::read_end))]
+    pub fn end(&mut self) -> Result<(), LineError>
+        ensures read { Reads reader.read_end self.old result self.new }
+        ensures rest { OnOk result (self.new ≡ []) }
+    {
+        if !self.tokens.is_empty() {
+            return Err(LineError::Syntax);
+        }
+        Ok(())
     }
 }

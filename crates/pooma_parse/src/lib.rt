@@ -7,6 +7,8 @@ mod cursor;
 mod error;
 mod expression;
 mod form;
+
+mod line;
 mod lists;
 mod names;
 mod view;

@@ -1,5 +1,6 @@
 ghost use Rattle.std.specs.Prelude.{◌≡◌, bytes_eq};
 ghost use Rattle.std.specs.List.{list_any};
+ghost use Rattle.pooma_parse.specs.Forms.{reductions};
 ghost use Rattle.pooma_parse.specs.Reader.{is_reserved};
 
 /// The words of the language that are no names.
@@ -46,6 +47,18 @@ const RESERVED: [&[u8]; 41] = [
     b"backfill",
     b"shiftup",
 ];
+
+/// The words of the reductions.
+const REDUCTIONS: [&[u8]; 8] = [
+    b"sum", b"min", b"max", b"all", b"any", b"count", b"bitand", b"bitor",
+];
+
+/// Whether a word is that of a reduction.
+pub fn is_reduction(word: &[u8]) -> bool
+    ensures { result ≡ list_any (bytes_eq word.now) reductions }
+{
+    is_among(&REDUCTIONS, word)
+}
 
 /// Whether a word is one of the language's own, which is no name.
 #[tactic(auto, unfolding(crate::specs::Reader::is_reserved))]
