@@ -1,2 +1,13 @@
-pub mod Depths
-pub mod Turns
+mod Atoms
+mod Choice
+mod Commas
+mod Depths
+mod Exact
+mod LineForms
+mod Operands
+mod Operators
+mod Parts
+mod Readings
+mod Reductions
+mod Trees
+mod Turns

@@ -479,7 +479,7 @@ unfoldable pub read_declaration : Reader RawLine
 read_declaration = read_layout <|> read_brick <|> read_array <|> read_field <|> read_stencil
 
 unfoldable pub read_statement : Reader RawLine
-read_statement = read_reduction <|> read_scalar <|> read_print <|> read_block <|> read_repeat <|> read_repeat_end <|> read_assignment
+read_statement = read_scalar <|> read_reduction <|> read_print <|> read_block <|> read_repeat <|> read_repeat_end <|> read_assignment
 
 unfoldable pub read_line : Reader RawLine
 read_line = read_declaration <|> read_statement

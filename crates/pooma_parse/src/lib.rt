@@ -7,13 +7,17 @@ mod cursor;
 mod error;
 mod expression;
 mod form;
+mod law;
 
 mod line;
 mod lists;
 mod names;
+mod parse;
 mod view;
 
 pub use error::LineError;
 pub use form::{
     RawAssign, RawCutting, RawExpr, RawLine, RawList, RawOp, RawSub, RawView, Updater4,
 };
+pub use law::one_form;
+pub use parse::parse_line;

@@ -63,11 +63,11 @@ fn declaration(alloc: Global, line: &Cursor<'_>) -> Result<RawLine, LineError>
 fn statement(alloc: Global, line: &Cursor<'_>) -> Result<RawLine, LineError>
     ensures { Reads reader.read_statement line.now result [] }
 {
-    let answer = reduction(alloc, line);
+    let answer = scalar(alloc, line);
     if !is_other_form(&answer) {
         return answer;
     }
-    let answer = scalar(alloc, line);
+    let answer = reduction(alloc, line);
     if !is_other_form(&answer) {
         return answer;
     }
