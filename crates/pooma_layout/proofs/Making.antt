@@ -13,7 +13,7 @@ use lib.Signed.{non_neg}
 use mir.Val.{Fits}
 use Rattle.pooma_domain.specs.Cells.{Interval, axis_length, count_of}
 use Rattle.pooma_domain.specs.Operations.{each_of}
-use Rattle.pooma_layout.specs.Axes.{CutAxis, cut_at, parts, IsCutAxis}
+use Rattle.pooma_layout.specs.Axes.{CutAxis, cut_axis, cut_at, parts, IsNear, IsDepth, IsCovering, IsAscending, AreBorders, IsCutAxis}
 use Rattle.pooma_layout.specs.Blocks.{part_lengths, blocks_of, product, IsPartCount}
 use Rattle.pooma_layout.specs.Patches.{physical_of, internal_of, external_of, borders_of, owned_boxes, IsLayout}
 use Rattle.pooma_layout.proofs.Cutting.{length-cut_at}
@@ -124,13 +124,24 @@ cuts_none domain cuts internal external = record {
   valid = All-nil IsCutAxis;
 }
 
-pub cuts_more : (domain : List Interval) (cuts : List (List ℤ)) (internal external : List ℤ) (n : ℕ) (axes : List CutAxis) (axis : CutAxis) (a : Interval) (list : List ℤ) (i e : ℤ) → CutsTo domain cuts internal external n axes → slice_get domain n ≡ Some a → slice_get cuts n ≡ Some list → slice_get internal n ≡ Some i → slice_get external n ≡ Some e → axis ≡ record { physical = a; external = e; internal = i; borders = list } → IsCutAxis axis → CutsTo domain cuts internal external (n + 1) (axes ++ axis ∷ [])
+-- the conditions on all axes are those on each
+pub cut_axis_at : (domain : List Interval) (cuts : List (Vec ℤ Global)) (internal external : List ℤ) (n : ℕ) (a : Interval) (list : Vec ℤ Global) (i e : ℤ) → All IsNear domain → All (λ v. IsAscending v.items) cuts → AllZip (λ x v. AreBorders x v.items) domain cuts → All IsDepth internal × All IsDepth external → AllZip IsCovering domain external → slice_get domain n ≡ Some a → slice_get cuts n ≡ Some list → slice_get internal n ≡ Some i → slice_get external n ≡ Some e → IsCutAxis (cut_axis a e i list.items)
+cut_axis_at domain cuts internal external n a list i e near ascending inside depths covering at_a at_list at_i at_e = record {
+  near = all_at IsNear domain n a near at_a;
+  external_depth = all_at IsDepth external n e depths.1 at_e;
+  internal_depth = all_at IsDepth internal n i depths.0 at_i;
+  covering = all_zip_at IsCovering domain external n a e covering at_a at_e;
+  ascending = all_at (λ (v : Vec ℤ Global). IsAscending v.items) cuts n list ascending at_list;
+  inside = all_zip_at (λ x (v : Vec ℤ Global). AreBorders x v.items) domain cuts n a list inside at_a at_list;
+}
+
+pub cuts_more : (domain : List Interval) (cuts : List (List ℤ)) (internal external : List ℤ) (n : ℕ) (axes : List CutAxis) (axis : CutAxis) (a : Interval) (list : List ℤ) (i e : ℤ) → CutsTo domain cuts internal external n axes → slice_get domain n ≡ Some a → slice_get cuts n ≡ Some list → slice_get internal n ≡ Some i → slice_get external n ≡ Some e → axis ≡ cut_axis a e i list → IsCutAxis (cut_axis a e i list) → CutsTo domain cuts internal external (n + 1) (axes ++ axis ∷ [])
 cuts_more domain cuts internal external n axes axis a list i e so_far at_a at_list at_i at_e is valid = record {
   physical_so_far = prefix_more (λ x. x.physical) domain n axes axis a so_far.physical_so_far at_a (ap (λ (x : CutAxis). x.physical) is);
   internal_so_far = prefix_more (λ x. x.internal) internal n axes axis i so_far.internal_so_far at_i (ap (λ (x : CutAxis). x.internal) is);
   external_so_far = prefix_more (λ x. x.external) external n axes axis e so_far.external_so_far at_e (ap (λ (x : CutAxis). x.external) is);
   borders_so_far = prefix_more (λ x. x.borders) cuts n axes axis list so_far.borders_so_far at_list (ap (λ (x : CutAxis). x.borders) is);
-  valid = All-push IsCutAxis axes axis so_far.valid valid;
+  valid = All-push IsCutAxis axes axis so_far.valid (subst IsCutAxis (sym is) valid);
 }
 
 parts_of_cuts : (axes : List CutAxis) → map (λ axis. length (parts axis)) axes ≡ map (λ (list : List ℤ). length list + 1) (borders_of axes)
@@ -182,11 +193,9 @@ length-each_of f [] ys = omega arith
 length-each_of f (x ∷ xs) [] = omega arith
 length-each_of f (x ∷ xs) (y ∷ ys) = omega (arith, length-each_of f xs ys)
 
-pub same_axis : (physical : Interval) {e1 e2 i1 i2 : ℤ} {b1 b2 : List ℤ} → e1 ≡ e2 → i1 ≡ i2 → b1 ≡ b2 → ◌≡◌ {A = CutAxis} (record { physical = physical; external = e1; internal = i1; borders = b1 }) (record { physical = physical; external = e2; internal = i2; borders = b2 })
+pub same_axis : (physical : Interval) {e1 e2 i1 i2 : ℤ} {b1 b2 : List ℤ} → e1 ≡ e2 → i1 ≡ i2 → b1 ≡ b2 → cut_axis physical e1 i1 b1 ≡ cut_axis physical e2 i2 b2
 same_axis physical {e2 = e2} {i1 = i1} {i2 = i2} {b1 = b1} e i b =
-    ap (λ v. record { physical = physical; external = v; internal = i1; borders = b1 }) e
-    ∙ ap (λ v. record { physical = physical; external = e2; internal = v; borders = b1 }) i
-    ∙ ap (λ v. record { physical = physical; external = e2; internal = i2; borders = v }) b
+    ap (λ v. cut_axis physical v i1 b1) e ∙ ap (λ v. cut_axis physical e2 v b1) i ∙ ap (λ v. cut_axis physical e2 i2 v) b
 
 pub lengths_of_lists : (cuts : List (Vec ℤ Global)) → map (λ list. length list.items + 1) cuts ≡ map (λ (list : List ℤ). length list + 1) (map (λ list. list.items) cuts)
 lengths_of_lists [] = refl

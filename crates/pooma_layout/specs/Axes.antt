@@ -11,6 +11,9 @@ pub record CutAxis : Type 0 where
   pub internal : ℤ
   pub borders : List ℤ
 
+abbrev pub cut_axis : Interval → ℤ → ℤ → List ℤ → CutAxis
+cut_axis physical external internal borders = record { physical = physical; external = external; internal = internal; borders = borders }
+
 -- an interval with so many more numbers at each end
 abbrev pub widened : ℤ → Interval → Interval
 widened depth axis = grown_axis axis (reach depth depth)

@@ -1,5 +1,5 @@
 -- Parts of nearly one length.
-use Rattle.std.specs.Prelude.{◌≡◌, ◌<◌, length, slice_index_or, ◌+ℤ◌, ℕ, ◌+◌, ◌-◌, ◌*◌, ◌/◌, ◌%◌, min, ℤ, pos, ◌≤ℤ◌, List, [], ◌∷◌, ◌++◌, map, replicate}
+use Rattle.std.specs.Prelude.{◌≡◌, ℕ, ◌+◌, ◌-◌, ◌*◌, ◌/◌, ◌%◌, ◌<◌, min, ℤ, pos, ◌+ℤ◌, ◌≤ℤ◌, List, [], ◌∷◌, ◌++◌, length, map, replicate, slice_index_or}
 use Rattle.pooma_domain.specs.Cells.{Interval, axis_length, count_of}
 use Rattle.pooma_layout.specs.Axes.{CutAxis, cut_at}
 

@@ -1,7 +1,7 @@
 ghost use Rattle.std.specs.Prelude.{◌≡◌, ◌+◌, ◌^◌, ◌<◌, ◌≤◌, pos, ◌≤ℤ◌, Some, length, map, slice_get, sum_by, IfOk, IsSomeAnd};
 ghost use Rattle.pooma_domain.specs.Axes.{interval_of};
 ghost use Rattle.pooma_domain.specs.Cells.{axis_length};
-ghost use Rattle.pooma_layout.specs.Axes.{total_axis, parts, part_of, allocated_part, IsNear, IsDepth, IsCovering, IsAscending, AreBorders, IsCutAxis};
+ghost use Rattle.pooma_layout.specs.Axes.{cut_axis, total_axis, parts, part_of, allocated_part, IsNear, IsDepth, IsCovering, IsCutAxis};
 ghost use Rattle.pooma_layout.specs.Blocks.{part_lengths, block_lengths, AreBlockStarts};
 
 use pooma_domain::Axis;
@@ -19,13 +19,13 @@ pub(crate) struct AxisParts {
 
 impl Model for AxisParts {
     ghost use Rattle.pooma_domain.specs.Cells.{interval};
-    ghost use Rattle.pooma_layout.specs.Axes.{CutAxis, IsCutAxis};
+    ghost use Rattle.pooma_layout.specs.Axes.{CutAxis, cut_axis, IsCutAxis};
 
     ghost Value = { CutAxis };
 
-    ghost view = { λ a. record { physical = interval a.physical.first a.physical.last; external = a.external; internal = a.internal; borders = a.borders.items } };
+    ghost view = { λ a. cut_axis (interval a.physical.first a.physical.last) a.external a.internal a.borders.items };
 
-    ghost invariant = { λ a. IsCutAxis (record { physical = interval a.physical.first a.physical.last; external = a.external; internal = a.internal; borders = a.borders.items }) };
+    ghost invariant = { λ a. IsCutAxis (cut_axis (interval a.physical.first a.physical.last) a.external a.internal a.borders.items) };
 }
 
 // How many numbers an axis has.
@@ -57,13 +57,8 @@ fn block_borders(alloc: Global, first: i32, cells: u32, parts: u32) -> Result<Ve
 impl AxisParts {
     // The axis cut at these borders.
     fn new(physical: Axis, borders: Vec<i32>, internal: i32, external: i32) -> AxisParts
-        requires near { IsNear (interval_of physical) }
-        requires depths { IsDepth internal × IsDepth external }
-        requires covering { IsCovering (interval_of physical) external }
-        requires ascending { IsAscending borders.items }
-        requires inside { AreBorders (interval_of physical) borders.items }
-        ensures value { result ≡ record { physical = interval_of physical; external = external; internal = internal; borders = borders.items } }
-        ensures valid { IsCutAxis result }
+        requires { IsCutAxis (cut_axis (interval_of physical) external internal borders.items) }
+        ensures { result ≡ cut_axis (interval_of physical) external internal borders.items }
     {
         AxisParts {
             physical,
@@ -81,13 +76,8 @@ impl AxisParts {
         internal: i32,
         external: i32,
     ) -> Result<AxisParts, AllocError>
-        requires near { IsNear (interval_of physical) }
-        requires depths { IsDepth internal × IsDepth external }
-        requires covering { IsCovering (interval_of physical) external }
-        requires ascending { IsAscending borders.now }
-        requires inside { AreBorders (interval_of physical) borders.now }
-        ensures value { IfOk result (λ made. made ≡ record { physical = interval_of physical; external = external; internal = internal; borders = borders.now }) }
-        ensures valid { IfOk result IsCutAxis }
+        requires { IsCutAxis (cut_axis (interval_of physical) external internal borders.now) }
+        ensures { IfOk result (λ made. made ≡ cut_axis (interval_of physical) external internal borders.now) }
     {
         let borders = Vec::from_slice(alloc, borders)?;
         Ok(AxisParts::new(physical, borders, internal, external))

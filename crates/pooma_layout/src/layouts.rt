@@ -1,4 +1,4 @@
-ghost use Rattle.std.specs.Prelude.{◌≡◌, ℕ, ℤ, ◌+◌, ◌*◌, ◌^◌, ◌<◌, ◌≤◌, Some, length, map, slice_get, All, IfOk};
+ghost use Rattle.std.specs.Prelude.{◌≡◌, ℕ, ◌+◌, ◌^◌, ◌<◌, ◌≤◌, Some, length, map, slice_get, All, IfOk};
 ghost use Rattle.std.specs.List.{AllZip};
 ghost use Rattle.pooma_domain.specs.Cells.{count_of, IsIn};
 ghost use Rattle.pooma_domain.specs.Operations.{each_of};

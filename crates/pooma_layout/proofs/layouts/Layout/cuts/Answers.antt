@@ -6,9 +6,9 @@ use Rattle.std.specs.Prelude.{ℤ, FitsSigned, Some, slice_get}
 use Rattle.std.specs.Option.{option_map}
 use Rattle.std.specs.Int.{w32}
 use Rattle.pooma_domain.specs.Axes.{interval_of}
-use Rattle.pooma_layout.specs.Axes.{IsNear, IsDepth, IsCovering, IsAscending, AreBorders}
+use Rattle.pooma_layout.specs.Axes.{cut_axis, AreBorders, IsCutAxis}
 use Rattle.pooma_layout.specs.Blocks.{product}
-use Rattle.pooma_layout.proofs.Making.{all_at, all_zip_at, all_of, length_of_zip, cuts_more, cuts_patches, is_layout, same_axis, lengths_of_lists}
+use Rattle.pooma_layout.proofs.Making.{all_of, length_of_zip, cut_axis_at, cuts_more, cuts_patches, is_layout, same_axis, lengths_of_lists}
 use Rattle.pooma_layout.proofs.layouts.Layout.cuts.Goals as goal
 
 pub axis-requires : goal.axis-requires
@@ -23,48 +23,34 @@ pub at-requires-in-loop-n : goal.at-requires-in-loop-n
 at-requires-in-loop-n c =
     omega (arith, c.loop-n-test.true, c.requires.same_dims.1, length_of_zip (λ axis (list : Vec ℤ Global). AreBorders axis list.items) c.args.domain c.args.cuts.now c.requires.inside)
 
-pub cut-requires-clause-near : goal.cut-requires-clause-near
-cut-requires-clause-near c = all_at IsNear c.args.domain c.loop-n.n (interval_of c.axis.result) c.requires.near c.axis.ensures
-
-pub cut-requires-clause-depths : goal.cut-requires-clause-depths
-cut-requires-clause-depths c =
+pub cut-requires : goal.cut-requires
+cut-requires c =
     let inner : FitsSigned w32 c.at.result = search rules in
     let outer : FitsSigned w32 c.at-in-loop-n.result = search rules in
-    rw (to_z-of_z w32 c.at.result inner, to_z-of_z w32 c.at-in-loop-n.result outer) (
-      all_at IsDepth c.args.internal.now c.loop-n.n c.at.result c.requires.depths.0 c.at.ensures,
-      all_at IsDepth c.args.external.now c.loop-n.n c.at-in-loop-n.result c.requires.depths.1 c.at-in-loop-n.ensures,
-    )
-
-pub cut-requires-clause-covering : goal.cut-requires-clause-covering
-cut-requires-clause-covering c =
-    let outer : FitsSigned w32 c.at-in-loop-n.result = search rules in
-    rw (to_z-of_z w32 c.at-in-loop-n.result outer)
-    (all_zip_at IsCovering c.args.domain c.args.external.now c.loop-n.n (interval_of c.axis.result) c.at-in-loop-n.result c.requires.covering c.axis.ensures c.at-in-loop-n.ensures)
-
-pub cut-requires-clause-ascending : goal.cut-requires-clause-ascending
-cut-requires-clause-ascending c =
-    let here : slice_get c.args.cuts.now c.loop-n.n ≡ Some c.index-cuts-n.result = slice_get_read c.args.cuts.now (length c.args.cuts.now) c.loop-n.n c.index-cuts-n.result refl c.loop-n-test.true c.index-cuts-n.is in
-    subst IsAscending (sym c.deref.ensures.value) (all_at (λ (list : Vec ℤ Global). IsAscending list.items) c.args.cuts.now c.loop-n.n c.index-cuts-n.result c.requires.ascending here)
-
-pub cut-requires-clause-inside : goal.cut-requires-clause-inside
-cut-requires-clause-inside c =
-    let here : slice_get c.args.cuts.now c.loop-n.n ≡ Some c.index-cuts-n.result = slice_get_read c.args.cuts.now (length c.args.cuts.now) c.loop-n.n c.index-cuts-n.result refl c.loop-n-test.true c.index-cuts-n.is in
-    subst (AreBorders (interval_of c.axis.result)) (sym c.deref.ensures.value)
-    (all_zip_at (λ axis (list : Vec ℤ Global). AreBorders axis list.items) c.args.domain c.args.cuts.now c.loop-n.n (interval_of c.axis.result) c.index-cuts-n.result c.requires.inside c.axis.ensures here)
+    let here : slice_get c.args.cuts.now c.loop-n.n ≡ Some c.index-cuts-n.result =
+    slice_get_read c.args.cuts.now (length c.args.cuts.now) c.loop-n.n c.index-cuts-n.result refl c.loop-n-test.true c.index-cuts-n.is in
+    let valid : IsCutAxis (cut_axis (interval_of c.axis.result) c.at-in-loop-n.result c.at.result c.index-cuts-n.result.items) =
+    cut_axis_at c.args.domain c.args.cuts.now c.args.internal.now c.args.external.now c.loop-n.n (interval_of c.axis.result) c.index-cuts-n.result c.at.result c.at-in-loop-n.result
+    c.requires.near c.requires.ascending c.requires.inside c.requires.depths c.requires.covering c.axis.ensures here c.at.ensures c.at-in-loop-n.ensures in
+    let same = same_axis (interval_of c.axis.result) (to_z-of_z w32 c.at-in-loop-n.result outer) (to_z-of_z w32 c.at.result inner) c.deref.ensures.value in
+    subst IsCutAxis (sym same) valid
 
 pub loop-n-preserved : goal.loop-n-preserved
 loop-n-preserved c =
     let inner : FitsSigned w32 c.at.result = search rules in
     let outer : FitsSigned w32 c.at-in-loop-n.result = search rules in
-    let here : slice_get c.args.cuts.now c.loop-n.n ≡ Some c.index-cuts-n.result = slice_get_read c.args.cuts.now (length c.args.cuts.now) c.loop-n.n c.index-cuts-n.result refl c.loop-n-test.true c.index-cuts-n.is in
+    let here : slice_get c.args.cuts.now c.loop-n.n ≡ Some c.index-cuts-n.result =
+    slice_get_read c.args.cuts.now (length c.args.cuts.now) c.loop-n.n c.index-cuts-n.result refl c.loop-n-test.true c.index-cuts-n.is in
+    let valid : IsCutAxis (cut_axis (interval_of c.axis.result) c.at-in-loop-n.result c.at.result c.index-cuts-n.result.items) =
+    cut_axis_at c.args.domain c.args.cuts.now c.args.internal.now c.args.external.now c.loop-n.n (interval_of c.axis.result) c.index-cuts-n.result c.at.result c.at-in-loop-n.result
+    c.requires.near c.requires.ascending c.requires.inside c.requires.depths c.requires.covering c.axis.ensures here c.at.ensures c.at-in-loop-n.ensures in
+    let same = same_axis (interval_of c.axis.result) (to_z-of_z w32 c.at-in-loop-n.result outer) (to_z-of_z w32 c.at.result inner) c.deref.ensures.value in
     let list : slice_get (map (λ (v : Vec ℤ Global). v.items) c.args.cuts.now) c.loop-n.n ≡ Some c.index-cuts-n.result.items =
     slice_get-map (λ (v : Vec ℤ Global). v.items) c.args.cuts.now c.loop-n.n ∙ ap (option_map (λ (v : Vec ℤ Global). v.items)) here in
     rw c.in_ok-push.ensures.items
     (cuts_more c.args.domain (map (λ (v : Vec ℤ Global). v.items) c.args.cuts.now) c.args.internal.now c.args.external.now c.loop-n.n c.loop-n.axes.items c.in_ok-axis.axis
     (interval_of c.axis.result) c.index-cuts-n.result.items c.at.result c.at-in-loop-n.result c.loop-n.invariant
-    c.axis.ensures list c.at.ensures c.at-in-loop-n.ensures
-    (c.in_ok-axis.ensures.value ∙ same_axis (interval_of c.axis.result) (to_z-of_z w32 c.at-in-loop-n.result outer) (to_z-of_z w32 c.at.result inner) c.deref.ensures.value)
-    c.in_ok-axis.ensures.valid)
+    c.axis.ensures list c.at.ensures c.at-in-loop-n.ensures (c.in_ok-axis.ensures ∙ same) valid)
 
 pub invariant_of-result : goal.invariant_of-result
 invariant_of-result c =
