@@ -12,13 +12,17 @@ use pooma_domain::{BoxN, Cell};
 use std::alloc::{AllocError, Global};
 use std::marker::Model;
 
-/// How a box of one to three axes is cut into patches. Each axis is cut into parts; a patch is a choice
-/// of one part an axis, and patches are numbered from 0, the first axis fastest. A patch *owns* the
-/// cells of its parts, where a part at an edge reaches through the external guards, and *allocates*
-/// those within its internal guards too. So each cell of the domain with its external guards has one
-/// owner.
+/// How a box of one to three axes, the domain, is cut into patches. Each axis is cut into parts; a patch
+/// is a choice of one part an axis, and patches are numbered from 0, the first axis fastest. External
+/// guards are layers of cells beyond the domain, 0 to 8 on each axis and no more than it has cells;
+/// internal guards are 0 to 8 layers round each part, where a patch keeps copies of its neighbours'
+/// cells.
 ///
-/// It takes memory in the number of parts of its axes, and not of its patches.
+/// A patch *owns* the cells of its parts, where a part at an edge reaches through the external guards.
+/// So each cell of the domain with its external guards has one owner. It *allocates* these and those
+/// within its internal guards.
+///
+/// A layout takes memory in the number of parts of its axes, and not of its patches.
 #[derive(Debug, Drop)]
 pub struct Layout {
     axes: Vec<AxisParts>,
@@ -38,7 +42,7 @@ impl Model for Layout {
 
 impl Layout {
     /// The domain cut on each axis into so many blocks. Where they do not divide the axis, the first
-    /// ones have one cell more.
+    /// ones have one cell more. Its only error is want of memory.
     pub fn grid(
         alloc: Global,
         domain: BoxN,
@@ -72,7 +76,8 @@ impl Layout {
         Ok(Layout { axes })
     }
 
-    /// The domain cut on each axis at these numbers: the first of each part but the first.
+    /// The domain cut on each axis at these numbers, each the first of a part. An axis that is not cut
+    /// has an empty list. Its only error is want of memory.
     pub fn cuts(
         alloc: Global,
         domain: BoxN,
@@ -101,7 +106,7 @@ impl Layout {
         Ok(Layout { axes })
     }
 
-    /// An equal layout.
+    /// An equal layout, for a further array. Its only error is want of memory.
     pub fn copied(&self, alloc: Global) -> Result<Layout, AllocError>
         ensures { IfOk result (λ made. made ≡ self.now) }
     {
@@ -121,7 +126,7 @@ impl Layout {
         patches::count(&self.axes)
     }
 
-    /// The domain.
+    /// The domain, without guards.
     pub fn physical(&self) -> BoxN
         ensures { result ≡ physical_of self.now }
     {
@@ -135,7 +140,7 @@ impl Layout {
         patches::total(&self.axes)
     }
 
-    /// The first number of each part of this axis but the first.
+    /// The borders of this axis, counted from 0: the first number of each part but the first, ascending.
     pub fn borders(&self, axis: usize) -> &[i32]
         requires { axis < length self.now }
         ensures { slice_get (borders_of self.now) axis ≡ Some result.now }
@@ -143,7 +148,7 @@ impl Layout {
         self.axes[axis].borders()
     }
 
-    /// The internal guard layers of this axis.
+    /// How many internal guard layers were given for this axis, counted from 0.
     pub fn internal(&self, axis: usize) -> i32
         requires { axis < length self.now }
         ensures { slice_get (internal_of self.now) axis ≡ Some result }
