@@ -1,6 +1,8 @@
-//! What the calls on numbers, boxes, views and fields answer: worked examples and tables, one file for each crate under test.
+//! What the calls on numbers, boxes, views, fields and patches answer: worked examples and tables, one file for each crate under test.
 #![tactic(auto)]
 
+#[cfg(test)]
+mod compress;
 #[cfg(test)]
 mod domain;
 #[cfg(test)]
@@ -9,5 +11,7 @@ mod field;
 mod layout;
 #[cfg(test)]
 mod num;
+#[cfg(test)]
+mod patch;
 #[cfg(test)]
 mod view;
