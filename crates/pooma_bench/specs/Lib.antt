@@ -2,3 +2,4 @@ pub mod Increments
 pub mod Windows
 pub mod Command
 pub mod Texts
+pub mod Planes

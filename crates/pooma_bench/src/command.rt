@@ -10,6 +10,8 @@ pub enum Command {
         /// From 1 to 100,000.
         entries: u32,
     },
+    /// Expressions evaluated over many positions.
+    Eval,
 }
 
 impl Command {
@@ -31,6 +33,7 @@ impl Command {
                 }
                 Some(Command::Machine { entries })
             }
+            [name] if name.as_str() == "eval" => Some(Command::Eval),
             _ => None,
         }
     }

@@ -8,6 +8,7 @@ use std::{env, io};
 use window::MOST_ENTRIES;
 
 mod command;
+mod eval;
 mod increment;
 mod measure;
 mod window;
@@ -17,14 +18,19 @@ const USAGE: u8 = 2;
 
 fn main(rt: HostRuntime) -> io::Result<ExitCode> {
     let words: Vec<String> = env::args(&rt)?.skip(1).collect(rt.alloc())?;
-    let Some(Command::Machine { entries }) = Command::from_words(&words) else {
-        eprintln!(rt;
-            "usage: pooma_bench machine N, where N is a number from 1 to {MOST_ENTRIES}"
-        )?;
-        return Ok(ExitCode::from(USAGE));
-    };
-    let (tally, times) = measure(&rt, entries)?;
-    println!(rt; "{tally}")?;
-    eprintln!(rt; "{times}")?;
+    match Command::from_words(&words) {
+        Some(Command::Machine { entries }) => {
+            let (tally, times) = measure(&rt, entries)?;
+            println!(rt; "{tally}")?;
+            eprintln!(rt; "{times}")?;
+        }
+        Some(Command::Eval) => eval::report(&rt)?,
+        None => {
+            eprintln!(rt;
+                "usage: pooma_bench machine N, where N is a number from 1 to {MOST_ENTRIES}, or pooma_bench eval"
+            )?;
+            return Ok(ExitCode::from(USAGE));
+        }
+    }
     Ok(ExitCode::SUCCESS)
 }
