@@ -24,10 +24,14 @@ fn strides_count_to_the_last_number(rt: HostRuntime) -> Result<(), Fail> {
     Ok(())
 }
 
+fn block() -> Result<BoxN, Fail> {
+    Ok(BoxN::of3(axis(-1, 1)?, axis(0, 3)?, axis(5, 6)?).ok_or("a box")?)
+}
+
 #[test]
 fn corners_have_their_places(rt: HostRuntime) -> Result<(), Fail> {
-    let whole = BoxN::of3(axis(-1, 1)?, axis(0, 3)?, axis(5, 6)?).ok_or("a box")?;
-    assert_eq!(rt; whole.count(), 24);
+    let block = block()?;
+    assert_eq!(rt; block.count(), 24);
     let table = [
         (-1, 0, 5, 0),
         (1, 0, 5, 2),
@@ -37,16 +41,26 @@ fn corners_have_their_places(rt: HostRuntime) -> Result<(), Fail> {
     ];
     for (a, b, c, place) in table {
         let corner = Cell::of3(a, b, c);
-        assert!(rt; whole.contains(&corner));
-        assert_eq!(rt; whole.place_of(&corner), place);
-        assert_eq!(rt; whole.cell_at(place), corner);
+        assert!(rt; block.contains(&corner));
+        assert_eq!(rt; block.place_of(&corner), place);
+        assert_eq!(rt; block.cell_at(place), corner);
     }
-    assert_eq!(rt;
-        BoxN::of3(axis(-1, 1)?, axis(0, 3)?, axis(5, 6)?),
-        Some(whole)
-    );
-    assert!(rt; whole != BoxN::of2(axis(-1, 1)?, axis(0, 3)?));
-    assert!(rt; !whole.contains(&Cell::of3(2, 0, 5)));
-    assert!(rt; !whole.contains(&Cell::of2(0, 0)));
+    Ok(())
+}
+
+#[test]
+fn cells_beside_a_box_are_not_in_it(rt: HostRuntime) -> Result<(), Fail> {
+    let block = block()?;
+    assert!(rt; !block.contains(&Cell::of3(2, 0, 5)));
+    assert!(rt; !block.contains(&Cell::of2(0, 0)));
+    Ok(())
+}
+
+#[test]
+fn boxes_are_the_same_where_their_axes_are(rt: HostRuntime) -> Result<(), Fail> {
+    let row = BoxN::of1(axis(0, 3)?);
+    assert_eq!(rt; block()?, block()?);
+    assert!(rt; row != BoxN::point());
+    assert!(rt; row != BoxN::of1(axis(0, 4)?));
     Ok(())
 }

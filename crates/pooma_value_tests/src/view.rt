@@ -22,12 +22,20 @@ fn a_view_names_its_cells(rt: HostRuntime) -> Result<(), Fail> {
     let view = View::new(4, &[Slot::Fixed(2), along(5, 0, -2)?]);
     assert_eq!(rt; view.array(), 4);
     assert_eq!(rt; view.dims(), 2);
-    assert_eq!(rt; view, View::new(4, &[view.slot(0), view.slot(1)]));
-    assert!(rt; view != View::new(3, &[view.slot(0), view.slot(1)]));
     let inside = Axis::of(0, 9).ok_or("an axis")?;
     let narrow = Axis::of(0, 4).ok_or("an axis")?;
     assert!(rt; view.within(&BoxN::of2(inside, inside)));
     assert!(rt; !view.within(&BoxN::of2(inside, narrow)));
+    Ok(())
+}
+
+#[test]
+fn views_are_the_same_where_array_and_slots_are(rt: HostRuntime) -> Result<(), Fail> {
+    let slots = [Slot::Fixed(2), along(5, 0, -2)?];
+    let view = View::new(4, &slots);
+    assert_eq!(rt; view, View::new(4, &slots));
+    assert!(rt; view != View::new(3, &slots));
+    assert!(rt; view != View::new(4, &[view.slot(1), view.slot(0)]));
     Ok(())
 }
 
