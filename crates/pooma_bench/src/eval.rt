@@ -22,6 +22,9 @@ const WIDTH: usize = 1000;
 // A plane with a row and a number more on either side than there are positions.
 const PLANE: usize = 1_002_002;
 
+// How often each is timed; the least time counts.
+const TURNS: usize = 7;
+
 // What the codes read, at the most.
 const MOST_READS: usize = 5;
 
@@ -218,6 +221,16 @@ impl fmt::Display for Evaluation {
 }
 
 impl Evaluation {
+    // The least time of each of the two.
+    fn or_less(self, other: Evaluation) -> Evaluation {
+        Evaluation {
+            code: self.code.min(other.code),
+            by_hand: self.by_hand.min(other.by_hand),
+            sum: self.sum,
+            is_same: self.is_same && other.is_same && self.sum == other.sum,
+        }
+    }
+
     // What was done from one moment to the next, and from there to the last.
     fn new(moments: [Instant; 3], tallies: [Tally; 2]) -> Evaluation {
         Evaluation {
@@ -270,15 +283,16 @@ fn choices<R: Clock + AllocGlobal>(rt: &R, planes: &Planes) -> io::Result<Evalua
     Ok(Evaluation::new([begun, evaluated, done], [tally, other]))
 }
 
-// `A + B * 3`, a five-point mean and `where(A < B, A, B + 1)`, in this order.
-fn evaluate_all<R: Clock + AllocGlobal>(rt: &R) -> io::Result<[Evaluation; 3]> {
-    let numbers = numbers(rt.alloc())?;
+// `A + B * 3`, a five-point mean and `where(A < B, A, B + 1)`, in this order, once.
+fn evaluate_all<R: Clock + AllocGlobal>(rt: &R, numbers: &[i64]) -> io::Result<[Evaluation; 3]>
+    requires { length numbers.now ≡ 2 * PLANE }
+{
     let side_by_side = Planes {
-        numbers: &numbers,
+        numbers,
         starts: [0, PLANE, 0, PLANE, 0],
     };
     let around = Planes {
-        numbers: &numbers,
+        numbers,
         starts: [1, WIDTH, WIDTH + 1, WIDTH + 2, 2 * WIDTH + 1],
     };
     Ok([
@@ -291,7 +305,13 @@ fn evaluate_all<R: Clock + AllocGlobal>(rt: &R) -> io::Result<[Evaluation; 3]> {
 /// Evaluates three expressions over many positions, and writes what came of them and how long it took.
 pub fn report<R: Clock + AllocGlobal + Print + Eprint>(rt: &R) -> io::Result<()> {
     let names = ["A + B * 3", "five-point mean", "where(A < B, A, B + 1)"];
-    let evaluations = evaluate_all(rt)?;
+    let numbers = numbers(rt.alloc())?;
+    let mut evaluations = evaluate_all(rt, &numbers)?;
+    for _ in 1..TURNS {
+        let [a, b, c] = evaluate_all(rt, &numbers)?;
+        let [x, y, z] = evaluations;
+        evaluations = [x.or_less(a), y.or_less(b), z.or_less(c)];
+    }
     for (name, evaluation) in names.iter().zip(&evaluations) {
         let by_hand = if evaluation.is_same { "the same" } else { "something else" };
         println!(rt; "eval: {name} over {POSITIONS} positions, sum {}, by hand {by_hand}", evaluation.sum)?;

@@ -111,3 +111,7 @@ module _ (number : ℕ → ℤ) (p : List ℤ) (CanAsk : ℕ → Type 0) (places
   ends at stack is h =
       let none : drop at os ≡ [] = drop_all at os h in
       (subst (λ (xs : List Operation). CanRun CanAsk (length p) places xs 0 (length stack)) none is.can, sym (ap (λ (xs : List Operation). outcome number p xs 0 stack) none) ∙ is.same)
+
+-- the same where as many places are counted otherwise
+pub same_places : (number : ℕ → ℤ) (p : List ℤ) (CanAsk : ℕ → Type 0) (m n : ℕ) (os : List Operation) (end : Checked) (at : ℕ) (stack : List ℤ) → m ≡ n → IsAt number p CanAsk m os end at stack → IsAt number p CanAsk n os end at stack
+same_places number p CanAsk m n os end at stack e is = subst (λ (k : ℕ). IsAt number p CanAsk k os end at stack) e is

@@ -6,6 +6,7 @@ use crate::tree::Op;
 use pooma_num::{FaultKind, add, div, mul, rem, sub};
 
 /// What the operator makes of two numbers, or the fault.
+#[inline(always)]
 pub(crate) fn apply(op: Op, x: i64, y: i64) -> Result<i64, FaultKind>
     ensures { result ≡ result_of op x y }
 {

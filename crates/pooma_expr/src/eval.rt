@@ -1,5 +1,5 @@
 //! The value of a code at a position.
-ghost use Rattle.std.specs.Prelude.{◌≡◌, ℕ, ◌<◌, ◌≤◌, [], length, Ok, Err, IfOk, IfErr};
+ghost use Rattle.std.specs.Prelude.{◌≡◌, ℕ, ◌+◌, ◌-◌, ◌<◌, ◌≤◌, [], ◌∷◌, length, drop, Ok, Err, IfOk, IfErr};
 ghost use Rattle.pooma_expr.specs.Code.{places_of};
 ghost use Rattle.pooma_expr.specs.Machine.{CanRun, CanStep, outcome, step_of};
 ghost use Rattle.pooma_expr.specs.Reads.{AgreeWith};
@@ -10,7 +10,6 @@ use crate::apply::apply;
 use crate::code::Code;
 use crate::operation::Operation;
 use crate::reads::Reads;
-use crate::stack::Stack;
 use pooma_domain::Cell;
 use pooma_num::{FaultKind, abs, neg};
 
@@ -47,59 +46,104 @@ fn eval_in<R: Reads, const PLACES: usize>(
     requires reads { (read : ℕ) → read < length (views_of code.now) → R.can_ask reads.now read p.now }
     ensures { (has : Contents) → AgreeWith has (views_of code.now) p.now (R.number reads.now) → result ≡ value [] has code.now p.now }
 {
-    run::<R, PLACES>(code.operations(), reads, p)
+    let mut places = [0; PLACES];
+    run(code.operations(), reads, p, &mut places)
 }
 
-// Does one operation, and says how many of the next ones are passed over.
-fn step<R: Reads, const PLACES: usize>(
+// What comes after an operation: how many of the next ones are passed over, and the place of the top number.
+#[derive(Clone, Copy)]
+struct Next {
+    passed: usize,
+    top: usize,
+}
+
+// The number at this place of a stack that is the end of these places.
+fn number_at(places: &[i64], top: usize) -> i64
+    requires { 0 < length (drop top places.now) }
+    ensures { drop top places.now ≡ result ∷ drop (top + 1) places.now }
+{
+    places[top]
+}
+
+// Puts a number on a stack that is the end of these places, from its top on.
+fn push(places: &mut [i64], top: usize, x: i64) -> Next
+    requires { (0 < top) × (top ≤ length places.old) }
+    ensures passed { result.passed ≡ 0 }
+    ensures within { result.top ≤ length places.new }
+    ensures stack { drop result.top places.new ≡ x ∷ drop top places.old }
+{
+    places[top - 1] = x;
+    Next {
+        passed: 0,
+        top: top - 1,
+    }
+}
+
+// Does one operation on a stack that is the end of these places, from its top on.
+fn step<R: Reads>(
     operation: Operation,
     reads: &R,
     p: &Cell,
-    stack: &mut Stack<PLACES>,
-) -> Result<usize, FaultKind>
-    requires few { PLACES ≤ 256 }
-    requires can { CanStep (λ read. R.can_ask reads.now read p.now) (length p.now) PLACES operation (length stack.old) }
-    ensures ok { IfOk result (λ passed. step_of (λ read. R.number reads.now read p.now) p.now operation stack.old ≡ Ok (passed, stack.new)) }
-    ensures err { IfErr result (λ fault. step_of (λ read. R.number reads.now read p.now) p.now operation stack.old ≡ Err fault) }
+    places: &mut [i64],
+    top: usize,
+) -> Result<Next, FaultKind>
+    requires within { top ≤ length places.old }
+    requires can { CanStep (λ read. R.can_ask reads.now read p.now) (length p.now) (length places.old) operation (length (drop top places.old)) }
+    ensures within { IfOk result (λ next. next.top ≤ length places.new) }
+    ensures ok { IfOk result (λ next. step_of (λ read. R.number reads.now read p.now) p.now operation (drop top places.old) ≡ Ok (next.passed, drop next.top places.new)) }
+    ensures err { IfErr result (λ fault. step_of (λ read. R.number reads.now read p.now) p.now operation (drop top places.old) ≡ Err fault) }
 {
     match operation {
-        Operation::Push(x) => stack.push(x),
-        Operation::PushIndex(axis) => stack.push(i64::from(p.at(axis as usize))),
-        Operation::PushRead(read) => stack.push(reads.value(read, p)),
+        Operation::Push(x) => Ok(push(places, top, x)),
+        Operation::PushIndex(axis) => {
+            let x = i64::from(p.at(axis as usize));
+            Ok(push(places, top, x))
+        }
+        Operation::PushRead(read) => {
+            let x = reads.value(read, p);
+            Ok(push(places, top, x))
+        }
         Operation::Negate => {
-            let x = stack.pop();
-            stack.push(neg(x)?);
+            let x = neg(number_at(places, top))?;
+            Ok(push(places, top + 1, x))
         }
         Operation::Absolute => {
-            let x = stack.pop();
-            stack.push(abs(x)?);
+            let x = abs(number_at(places, top))?;
+            Ok(push(places, top + 1, x))
         }
         Operation::Apply(op) => {
-            let y = stack.pop();
-            let x = stack.pop();
-            stack.push(apply(op, x, y)?);
+            let y = number_at(places, top);
+            let x = number_at(places, top + 1);
+            let z = apply(op, x, y)?;
+            Ok(push(places, top + 2, z))
         }
-        Operation::SkipIfZero(count) => return Ok(if stack.pop() == 0 { count } else { 0 }),
-        Operation::Skip(count) => return Ok(count),
+        Operation::SkipIfZero(count) => {
+            let x = number_at(places, top);
+            Ok(Next {
+                passed: if x == 0 { count } else { 0 },
+                top: top + 1,
+            })
+        }
+        Operation::Skip(count) => Ok(Next { passed: count, top }),
     }
-    Ok(0)
 }
 
-// What the operations come to, on a stack of this many places.
-fn run<R: Reads, const PLACES: usize>(
+// What the operations come to, on a stack of these places.
+fn run<R: Reads>(
     operations: &[Operation],
     reads: &R,
     p: &Cell,
+    places: &mut [i64],
 ) -> Result<i64, FaultKind>
-    requires few { PLACES ≤ 256 }
-    requires can { CanRun (λ read. R.can_ask reads.now read p.now) (length p.now) PLACES operations.now 0 0 }
+    requires { CanRun (λ read. R.can_ask reads.now read p.now) (length p.now) (length places.old) operations.now 0 0 }
     ensures { result ≡ outcome (λ read. R.number reads.now read p.now) p.now operations.now 0 [] }
 {
-    let mut stack = Stack::<PLACES>::new();
+    let mut top = places.len();
     let mut at = 0;
     while at < operations.len() {
-        let passed = step(operations[at], reads, p, &mut stack)?;
-        at += 1 + passed;
+        let next = step(operations[at], reads, p, places, top)?;
+        at += 1 + next.passed;
+        top = next.top;
     }
-    Ok(stack.pop())
+    Ok(number_at(places, top))
 }

@@ -11,7 +11,6 @@ mod operation;
 mod partial;
 mod reads;
 mod reduction;
-mod stack;
 mod tree;
 
 pub use code::Code;
