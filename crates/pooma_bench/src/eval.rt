@@ -113,7 +113,13 @@ fn mean(x: [i64; MOST_READS]) -> Result<i64, FaultKind> {
 fn mean_by_hand(planes: &Planes) -> Tally
     requires within { (read : ℕ) → read < MOST_READS → slice_index planes.now.starts read + POSITIONS ≤ length planes.now.numbers.now }
 {
-    let rows = [row(planes, 0), row(planes, 1), row(planes, 2), row(planes, 3), row(planes, 4)];
+    let rows = [
+        row(planes, 0),
+        row(planes, 1),
+        row(planes, 2),
+        row(planes, 3),
+        row(planes, 4),
+    ];
     let mut tally = Tally::NONE;
     for k in 0..POSITIONS as usize {
         tally = tally.note(mean([rows[0][k], rows[1][k], rows[2][k], rows[3][k], rows[4][k]]));
@@ -313,8 +319,15 @@ pub fn report<R: Clock + AllocGlobal + Print + Eprint>(rt: &R) -> io::Result<()>
         evaluations = [x.or_less(a), y.or_less(b), z.or_less(c)];
     }
     for (name, evaluation) in names.iter().zip(&evaluations) {
-        let by_hand = if evaluation.is_same { "the same" } else { "something else" };
-        println!(rt; "eval: {name} over {POSITIONS} positions, sum {}, by hand {by_hand}", evaluation.sum)?;
+        let by_hand = if evaluation.is_same {
+            "the same"
+        } else {
+            "something else"
+        };
+        println!(rt;
+            "eval: {name} over {POSITIONS} positions, sum {}, by hand {by_hand}",
+            evaluation.sum
+        )?;
         eprintln!(rt; "{name}: {evaluation}")?;
     }
     Ok(())

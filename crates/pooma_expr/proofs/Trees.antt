@@ -49,12 +49,12 @@ pub record EachForm (P : Expr → Type 0) : Type 0 where
 
 pub by_form : (P : Expr → Type 0) → EachForm P → (e : Expr) → P e
 by_form P h = ind-Expr P (λ x y is. (elim y as (λ z. map-Expr _ Expr (λ e. e.0) z ≡ x → P (roll-Expr x)) [
-      Expr-F.Literal n ↦ λ e. subst (λ l. P (roll-Expr l)) e (subst P (sym (rolls-Literal n)) (h.literal n))
-    | Expr-F.Scalar n ↦ λ e. subst (λ l. P (roll-Expr l)) e (subst P (sym (rolls-Scalar n)) (h.scalar n))
-    | Expr-F.Index n ↦ λ e. subst (λ l. P (roll-Expr l)) e (subst P (sym (rolls-Index n)) (h.index n))
-    | Expr-F.Read v ↦ λ e. subst (λ l. P (roll-Expr l)) e (subst P (sym (rolls-Read v)) (h.read v))
-    | Expr-F.Neg a ↦ λ e. subst (λ l. P (roll-Expr l)) e (subst P (sym (rolls-Neg a.0)) (h.neg a.0 a.1))
-    | Expr-F.Abs a ↦ λ e. subst (λ l. P (roll-Expr l)) e (subst P (sym (rolls-Abs a.0)) (h.abs a.0 a.1))
-    | Expr-F.Bin o a b ↦ λ e. subst (λ l. P (roll-Expr l)) e (subst P (sym (rolls-Bin o a.0 b.0)) (h.bin o a.0 b.0 a.1 b.1))
-    | Expr-F.Where c a b ↦ λ e. subst (λ l. P (roll-Expr l)) e (subst P (sym (rolls-Where c.0 a.0 b.0)) (h.choice c.0 a.0 b.0 c.1 a.1 b.1))
-  ]) is)
+  | Expr-F.Literal n ↦ λ e. subst (λ l. P (roll-Expr l)) e (subst P (sym (rolls-Literal n)) (h.literal n))
+  | Expr-F.Scalar n ↦ λ e. subst (λ l. P (roll-Expr l)) e (subst P (sym (rolls-Scalar n)) (h.scalar n))
+  | Expr-F.Index n ↦ λ e. subst (λ l. P (roll-Expr l)) e (subst P (sym (rolls-Index n)) (h.index n))
+  | Expr-F.Read v ↦ λ e. subst (λ l. P (roll-Expr l)) e (subst P (sym (rolls-Read v)) (h.read v))
+  | Expr-F.Neg a ↦ λ e. subst (λ l. P (roll-Expr l)) e (subst P (sym (rolls-Neg a.0)) (h.neg a.0 a.1))
+  | Expr-F.Abs a ↦ λ e. subst (λ l. P (roll-Expr l)) e (subst P (sym (rolls-Abs a.0)) (h.abs a.0 a.1))
+  | Expr-F.Bin o a b ↦ λ e. subst (λ l. P (roll-Expr l)) e (subst P (sym (rolls-Bin o a.0 b.0)) (h.bin o a.0 b.0 a.1 b.1))
+  | Expr-F.Where c a b ↦ λ e. subst (λ l. P (roll-Expr l)) e (subst P (sym (rolls-Where c.0 a.0 b.0)) (h.choice c.0 a.0 b.0 c.1 a.1 b.1))
+]) is)

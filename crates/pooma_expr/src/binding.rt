@@ -32,11 +32,7 @@ pub(crate) fn bind(alloc: Global, expr: &Expr, scalars: &[i64]) -> Result<Expr, 
 }
 
 #[cycle(bind)]
-fn bind_boxed(
-    alloc: Global,
-    expr: &Boxed<Expr>,
-    scalars: &[i64],
-) -> Result<Boxed<Expr>, AllocError>
+fn bind_boxed(alloc: Global, expr: &Boxed<Expr>, scalars: &[i64]) -> Result<Boxed<Expr>, AllocError>
     requires { scalars_needed expr.now ≤ length scalars.now }
     ensures { IfOk result (λ e. e ≡ bound scalars.now expr.now) }
 {

@@ -31,7 +31,6 @@ struct Compiled {
 
 impl Model for Compiled {
     ghost use Rattle.pooma_expr.specs.declared.tree.Expr.{Expr};
-
     ghost use Rattle.pooma_expr.specs.contracts.tree.Expr.{the_row};
 
     ghost Value = { Expr };
@@ -47,7 +46,6 @@ impl Model for Compiled {
 
 impl Model for Code {
     ghost use Rattle.pooma_expr.specs.declared.tree.Expr.{Expr};
-
     ghost use Rattle.pooma_expr.specs.contracts.tree.Expr.{the_row};
 
     ghost Value = { Expr };

@@ -102,7 +102,9 @@ impl Partial {
     {
         match self.reduction {
             Reduction::Sum => self.total.finish(),
-            Reduction::Min | Reduction::Max | Reduction::BitAnd | Reduction::BitOr => Ok(self.joined),
+            Reduction::Min | Reduction::Max | Reduction::BitAnd | Reduction::BitOr => Ok(
+                self.joined,
+            ),
             Reduction::All => Ok(i64::from(self.set == self.total.count())),
             Reduction::Any => Ok(i64::from(self.set > 0)),
             Reduction::Count => Ok(i64::from(self.set)),

@@ -14,7 +14,7 @@ places-requires c = omega (arith, ap depth_of c.in_ok-tree.ensures, depth_bound 
 pub invariant_of-compiled : goal.invariant_of-compiled
 invariant_of-compiled c =
     kept c.args.expr.now _ _ c.args.scalars.now _ _ _ _ _ c.in_ok-tree.ensures c.of.ensures c.new-operations.ensures.items c.new-reads.ensures.items
-        c.in_ok-emit.ensures.code c.in_ok-emit.ensures.reads c.places.ensures.places c.places.ensures.most c.requires.depth c.requires.reads
+    c.in_ok-emit.ensures.code c.in_ok-emit.ensures.reads c.places.ensures.places c.places.ensures.most c.requires.depth c.requires.reads
 
 pub returns-clause-value : goal.returns-clause-value
 returns-clause-value c = λ has p.

@@ -16,5 +16,5 @@ returns-clause-numbers c = λ xs ys h k.
     let y_fits : FitsSigned w64 c.other.inside.joined = search rules in
     let parts = simp to_z-of_z at c.join_parts-self-inside.ensures in
     let joined = to_z-of_z w64 _ fits ∙ parts xs ys mine.fit others.fit (c.count-count.ensures.count ∙ ap (λ (t : Sum). t.count) mine.total) (c.count-more.ensures.count ∙ ap (λ (t : Sum). t.count) others.total)
-      mine.joined (others.joined ∙ ap (λ r. join_all (join_of r) ys) same) in
+    mine.joined (others.joined ∙ ap (λ r. join_all (join_of r) ys) same) in
     merges xs ys _ _ _ mine others refl c.merge.ensures refl joined
