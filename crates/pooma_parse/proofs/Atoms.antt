@@ -1,6 +1,5 @@
 -- Single tokens.
-use Rattle.std.proofs.Common.{◌≡◌, ◌⊎◌, ℕ, ℤ, pos, ◌≤◌, ◌-ℤ◌, Bool, true, false, not, ◌&&◌, if◌then◌else◌, List, [], ◌∷◌, ◌++◌, Option, Some, None, refl, sym, ap, ◌∙◌, subst, inl, inr, rules, arith, codes, bytes_eq, nat_le, Contains}
-use Rattle.std.proofs.lemmas.Grind.{common_steps}
+use Rattle.std.proofs.Common.{◌≡◌, ◌⊎◌, ℕ, ℤ, pos, ◌≤◌, ◌-ℤ◌, Bool, true, false, not, ◌&&◌, if◌then◌else◌, List, [], ◌∷◌, ◌++◌, Some, None, refl, sym, ap, ◌∙◌, subst, inl, inr, rules, arith, codes, bytes_eq, nat_le, Contains}
 use Rattle.std.proofs.lemmas.Bool.Decides.{nat_tests}
 use Rattle.std.proofs.lemmas.Slice.Eq.{bytes_eq-Decides}
 use Rattle.std.specs.List.{list_any}
@@ -13,8 +12,8 @@ use Rattle.pooma_text.specs.declared.token.TokenKind.TheVariants.{Word, Number, 
 use Rattle.pooma_text.specs.Number.{value_of}
 use Rattle.pooma_parse.specs.Languages.{Language, number, sign, word, name, signed, ◌⨾◌}
 use Rattle.pooma_parse.specs.Names.{reserved_words}
-use Rattle.pooma_parse.specs.Reader.{Reader, and_then, begins, begins_name, begins_sign, behind, expect, expect_sign, expect_word, is_reserved, pure, read_name, read_number, read_signed, same_kind, span_of}
-use Rattle.pooma_parse.specs.Tokens.{Lexeme, number_token, sign_token, word_token}
+use Rattle.pooma_parse.specs.Reader.{and_then, begins, begins_name, begins_sign, behind, expect, expect_sign, expect_word, is_reserved, pure, read_name, read_number, read_signed, same_kind, span_of}
+use Rattle.pooma_parse.specs.Tokens.{Lexeme, number_token, word_token}
 use Rattle.pooma_parse.proofs.Exact.{Any, Begins, Exact, and_then_some, cut, done, if_cases, if_false, if_true, some_same, step, then_begins}
 
 -- a token of a kind with a text
@@ -89,8 +88,8 @@ expect_exact kind text = record {
     | inr other ↦ absurd (cc (other.1))
   ];
   complete = λ tokens rest v b any.
-    let t = begins_of b in
-    if_true None t.0 (ap (λ r. Some (tt, r)) t.1);
+      let t = begins_of b in
+      if_true None t.0 (ap (λ r. Some (tt, r)) t.1);
 }
 
 pub sign_exact : (text : List ℕ) → Exact Any (λ _. sign text) (expect_sign text)
@@ -177,17 +176,17 @@ pub number_at : (most : ℕ) (tokens rest : List Lexeme) (v : ℤ) → read_numb
 unfolding read_number
 number_at most [] rest v e = absurd (cc)
 number_at most (t ∷ tokens) rest v e = elim (if_cases (same_kind t.kind Number && nat_le (value_of t.text) most) e) [
-    | inl so ↦
-        let parts = and_parts (same_kind t.kind Number) (nat_le (value_of t.text) most) so.0 in
-        let kinds = same_kind_is t.kind Number parts.0 in
-        let same = some_same so.1 in
-        record {
-          front = t ∷ [];
-          spelled = (t.text, t.span, nat_le_is (value_of t.text) most parts.1, sym (ap (λ p. p.0) same), ap (λ k. token_of k t.text t.span ∷ []) kinds);
-          whole = ap (λ r. t ∷ r) (ap (λ p. p.1) same);
-        }
-    | inr other ↦ absurd (cc (other.1))
-  ]
+  | inl so ↦
+      let parts = and_parts (same_kind t.kind Number) (nat_le (value_of t.text) most) so.0 in
+      let kinds = same_kind_is t.kind Number parts.0 in
+      let same = some_same so.1 in
+      record {
+        front = t ∷ [];
+        spelled = (t.text, t.span, nat_le_is (value_of t.text) most parts.1, sym (ap (λ p. p.0) same), ap (λ k. token_of k t.text t.span ∷ []) kinds);
+        whole = ap (λ r. t ∷ r) (ap (λ p. p.1) same);
+      }
+  | inr other ↦ absurd (cc (other.1))
+]
 
 pub number_begins : {most : ℕ} {tokens rest : List Lexeme} {v : ℤ} → Begins (number most v) tokens rest
     → (digits : List ℕ) × (span : Span) × (value_of digits ≤ most) × (v ≡ pos (value_of digits)) × (tokens ≡ number_token digits span ∷ rest)
@@ -219,9 +218,9 @@ negative {m = m} e b = record { front = b.front; spelled = inr (m, e, b.spelled)
 pub signed_cases : {most : ℕ} {tokens rest : List Lexeme} {v : ℤ} → Begins (signed most v) tokens rest
     → Begins (number most v) tokens rest ⊎ ((m : ℤ) × (v ≡ pos 0 -ℤ m) × Begins (sign (codes "-") ⨾ number most m) tokens rest)
 signed_cases b = elim b.spelled [
-    | inl plain ↦ inl (record { front = b.front; spelled = plain; whole = b.whole })
-    | inr minus ↦ inr (minus.0, minus.1, record { front = b.front; spelled = minus.2; whole = b.whole })
-  ]
+  | inl plain ↦ inl (record { front = b.front; spelled = plain; whole = b.whole })
+  | inr minus ↦ inr (minus.0, minus.1, record { front = b.front; spelled = minus.2; whole = b.whole })
+]
 
 pub signed_exact : (most : ℕ) → Exact Any (signed most) (read_signed most)
 unfolding read_signed
@@ -241,6 +240,6 @@ signed_exact most = record {
         let at = begins_of parts.one in
         let n = number_read most parts.mid rest minus.0 parts.other in
         if_true _ at.0 (subst (λ s. and_then (read_number most s) (λ n. pure (pos 0 -ℤ n)) ≡ Some (v, rest)) (sym at.1)
-            (and_then_some (λ n. pure (pos 0 -ℤ n)) n (ap (λ n. Some (n, rest)) (sym minus.1))))
+        (and_then_some (λ n. pure (pos 0 -ℤ n)) n (ap (λ n. Some (n, rest)) (sym minus.1))))
   ];
 }

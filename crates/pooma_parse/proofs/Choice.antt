@@ -1,16 +1,14 @@
 -- A line is read as the grammar says: its first word tells its form, but for a scalar and a reduction.
-use Rattle.std.proofs.Common.{◌≡◌, ◌⊎◌, ℕ, ℤ, Bool, true, false, if◌then◌else◌, List, [], ◌∷◌, ◌++◌, Option, Some, None, refl, sym, ap, ◌∙◌, subst, inl, inr, codes, Contains, bytes_eq}
+use Rattle.std.proofs.Common.{◌≡◌, ◌⊎◌, ℕ, Bool, true, false, List, [], Option, Some, None, refl, sym, ap, ◌∙◌, subst, inl, inr, codes, Contains, bytes_eq}
 use Rattle.std.specs.List.{list_any}
 use Rattle.pooma_text.specs.declared.span.Span.{Span}
-use Rattle.pooma_text.specs.declared.token.TokenKind.TheVariants.{Word, Number, Sign}
-use Rattle.pooma_parse.specs.declared.expression.Place.TheVariants.{InBody, InLine}
 use Rattle.pooma_parse.specs.declared.form.RawLine.{RawLine}
 use Rattle.pooma_parse.specs.declared.form.RawLine.TheVariants as line
 use Rattle.pooma_parse.specs.Forms.{LINE}
 use Rattle.pooma_parse.specs.Languages.{Language, name, word, ◌⨾◌}
 use Rattle.pooma_parse.specs.Names.{reserved_words}
 use Rattle.pooma_parse.specs.Reader.{Reader, and_then, begins, begins_name, begins_word, either_of, expect, expect_word, read_array, read_assignment, read_block, read_brick, read_declaration, read_field, read_layout, read_line, read_name, read_print, read_reduction, read_repeat, read_repeat_end, read_scalar, read_scalar_head, read_statement, read_stencil, read_view}
-use Rattle.pooma_parse.specs.Tokens.{Lexeme, word_token}
+use Rattle.pooma_parse.specs.Tokens.{Lexeme}
 use Rattle.pooma_parse.proofs.Atoms.{among_contains, bytes_same, name_begins}
 use Rattle.pooma_parse.proofs.Exact.{Begins, cut, if_false}
 use Rattle.pooma_parse.proofs.LineForms.{Finished, array_complete, array_sound, assignment_complete, assignment_sound, block_complete, block_sound, brick_complete, brick_sound, field_complete, field_sound, layout_complete, layout_sound, line_begins, no_scalar, nothing_behind, print_name_complete, print_sound, print_view_complete, reduction_complete, reduction_sound, repeat_complete, repeat_end_complete, repeat_end_sound, repeat_sound, scalar_complete, scalar_sound, stencil_complete, stencil_sound}
@@ -126,7 +124,7 @@ unfolding begins
 name_no_word text reserved {span = span} b =
     let at = name_begins b in
     let apart : bytes_eq at.0 text ≡ false = false_or_true (bytes_eq at.0 text) (λ same.
-      at.1 (subst (λ t. Contains reserved_words t) (sym (bytes_same at.0 text same)) (among_contains reserved_words text reserved))) in
+    at.1 (subst (λ t. Contains reserved_words t) (sym (bytes_same at.0 text same)) (among_contains reserved_words text reserved))) in
     ap (begins_word text) at.2 ∙ apart
 
 -- the keyword of a line
@@ -145,47 +143,47 @@ keyword_alone text tokens l = record { rest = []; first = line_begins (word text
 statement_sound : (tokens rest : List Lexeme) (v : RawLine) → read_statement tokens ≡ Some (v, rest) → Finished LINE tokens rest v
 unfolding read_statement
 statement_sound tokens rest v e = elim (either_cases (read_scalar tokens) _ e) [
-    | inl so ↦ scalar_sound tokens rest v so
-    | inr a ↦ elim (either_cases (read_reduction tokens) _ a) [
-      | inl so ↦ reduction_sound tokens rest v so
-      | inr b ↦ elim (either_cases (read_print tokens) _ b) [
-        | inl so ↦ print_sound tokens rest v so
-        | inr c ↦ elim (either_cases (read_block tokens) _ c) [
-          | inl so ↦ block_sound tokens rest v so
-          | inr d ↦ elim (either_cases (read_repeat tokens) _ d) [
-            | inl so ↦ repeat_sound tokens rest v so
-            | inr f ↦ elim (either_cases (read_repeat_end tokens) _ f) [
-              | inl so ↦ repeat_end_sound tokens rest v so
-              | inr so ↦ assignment_sound tokens rest v so
-            ]
+  | inl so ↦ scalar_sound tokens rest v so
+  | inr a ↦ elim (either_cases (read_reduction tokens) _ a) [
+    | inl so ↦ reduction_sound tokens rest v so
+    | inr b ↦ elim (either_cases (read_print tokens) _ b) [
+      | inl so ↦ print_sound tokens rest v so
+      | inr c ↦ elim (either_cases (read_block tokens) _ c) [
+        | inl so ↦ block_sound tokens rest v so
+        | inr d ↦ elim (either_cases (read_repeat tokens) _ d) [
+          | inl so ↦ repeat_sound tokens rest v so
+          | inr f ↦ elim (either_cases (read_repeat_end tokens) _ f) [
+            | inl so ↦ repeat_end_sound tokens rest v so
+            | inr so ↦ assignment_sound tokens rest v so
           ]
         ]
       ]
     ]
   ]
+]
 
 declaration_sound : (tokens rest : List Lexeme) (v : RawLine) → read_declaration tokens ≡ Some (v, rest) → Finished LINE tokens rest v
 unfolding read_declaration
 declaration_sound tokens rest v e = elim (either_cases (read_layout tokens) _ e) [
-    | inl so ↦ layout_sound tokens rest v so
-    | inr a ↦ elim (either_cases (read_brick tokens) _ a) [
-      | inl so ↦ brick_sound tokens rest v so
-      | inr b ↦ elim (either_cases (read_array tokens) _ b) [
-        | inl so ↦ array_sound tokens rest v so
-        | inr c ↦ elim (either_cases (read_field tokens) _ c) [
-          | inl so ↦ field_sound tokens rest v so
-          | inr so ↦ stencil_sound tokens rest v so
-        ]
+  | inl so ↦ layout_sound tokens rest v so
+  | inr a ↦ elim (either_cases (read_brick tokens) _ a) [
+    | inl so ↦ brick_sound tokens rest v so
+    | inr b ↦ elim (either_cases (read_array tokens) _ b) [
+      | inl so ↦ array_sound tokens rest v so
+      | inr c ↦ elim (either_cases (read_field tokens) _ c) [
+        | inl so ↦ field_sound tokens rest v so
+        | inr so ↦ stencil_sound tokens rest v so
       ]
     ]
   ]
+]
 
 pub line_sound : (tokens rest : List Lexeme) (v : RawLine) → read_line tokens ≡ Some (v, rest) → LINE v tokens
 unfolding read_line
 line_sound tokens rest v e = elim (either_cases (read_declaration tokens) _ e) [
-    | inl so ↦ (declaration_sound tokens rest v so).says
-    | inr so ↦ (statement_sound tokens rest v so).says
-  ]
+  | inl so ↦ (declaration_sound tokens rest v so).says
+  | inr so ↦ (statement_sound tokens rest v so).says
+]
 
 -- ---- the form of a line is what is read
 

@@ -1,9 +1,9 @@
 -- Lists with commas between their entries, and what stands in parentheses.
-use Rattle.std.proofs.Common.{◌≡◌, ◌⊎◌, ℕ, zero, suc, ℤ, pos, ◌+◌, ◌≤◌, Bool, true, false, if◌then◌else◌, List, [], ◌∷◌, ◌++◌, Option, Some, None, refl, sym, ap, ◌∙◌, subst, inl, inr, arith, codes, length, length-append, append_assoc, append-nil}
+use Rattle.std.proofs.Common.{◌≡◌, ℕ, zero, suc, ◌≤◌, false, List, [], ◌∷◌, ◌++◌, Some, refl, sym, ap, ◌∙◌, subst, inl, inr, arith, codes, length, length-append, append_assoc, append-nil}
 use Rattle.pooma_text.specs.declared.span.Span.{Span}
-use Rattle.pooma_text.specs.declared.token.TokenKind.TheVariants.{Word, Number, Sign}
-use Rattle.pooma_parse.specs.Languages.{Language, followed, listed, nothing, parens, sign, ◌⨾◌}
-use Rattle.pooma_parse.specs.Reader.{Reader, and_then, begins_sign, behind, expect_sign, pure, read_entries, read_listed, read_parens, ◌>>=◌, ◌>>◌}
+use Rattle.pooma_text.specs.declared.token.TokenKind.TheVariants.{Sign}
+use Rattle.pooma_parse.specs.Languages.{Language, followed, listed, nothing, parens}
+use Rattle.pooma_parse.specs.Reader.{Reader, begins_sign, read_entries, read_listed, read_parens}
 use Rattle.pooma_parse.specs.Tokens.{Lexeme, sign_token}
 use Rattle.pooma_parse.proofs.Atoms.{begins_is, begins_of, sign_exact, token_begins}
 use Rattle.pooma_parse.proofs.Exact.{Any, Begins, Exact, and_then_some, cut, done, if_cases, if_false, if_true, nothing_begins, nothing_ends, some_same, step, then_begins}
@@ -30,15 +30,17 @@ module _ {A : Type 0} {F : List Lexeme → Type 0} {L : A → Language} {p : Rea
       let same = some_same e in
       ([], append-nil found ∙ ap (λ p. p.0) same, subst (λ r. Begins nothing tokens r) (ap (λ p. p.1) same) (nothing_begins tokens))
   entries_sound (suc k) found tokens rest all e = elim (if_cases (begins_sign (codes ",") tokens) e) [
-      | inl so ↦
-          let entry = step exact so.1 in
-          let further = entries_sound k (found ++ entry.value ∷ []) entry.mid rest all entry.more in
-          (entry.value ∷ further.0, sym (append_assoc found (entry.value ∷ []) further.0) ∙ further.1,
-            then_begins (begins_is Sign (codes ",") tokens so.0) (then_begins entry.spelled further.2))
-      | inr other ↦
-          let same = some_same other.1 in
-          ([], append-nil found ∙ ap (λ p. p.0) same, subst (λ r. Begins nothing tokens r) (ap (λ p. p.1) same) (nothing_begins tokens))
-    ]
+    | inl so ↦
+        let entry = step exact so.1 in
+        let further = entries_sound k (found ++ entry.value ∷ []) entry.mid rest all entry.more in (
+          entry.value ∷ further.0,
+          sym (append_assoc found (entry.value ∷ []) further.0) ∙ further.1,
+          then_begins (begins_is Sign (codes ",") tokens so.0) (then_begins entry.spelled further.2),
+        )
+    | inr other ↦
+        let same = some_same other.1 in
+        ([], append-nil found ∙ ap (λ p. p.0) same, subst (λ r. Begins nothing tokens r) (ap (λ p. p.1) same) (nothing_begins tokens))
+  ]
 
   follows_entry : BeforeComma F → (more : List A) (mid rest : List Lexeme) → Begins (followed L more) mid rest → F rest → F mid
   follows_entry comma [] mid rest b f = subst F (sym (nothing_ends b)) f
@@ -54,7 +56,7 @@ module _ {A : Type 0} {F : List Lexeme → Type 0} {L : A → Language} {p : Rea
   entries_complete comma (suc k) found [] tokens rest b few no_comma f =
       let same = nothing_ends b in
       if_false _ (ap (begins_sign (codes ",")) same ∙ no_comma)
-        (ap (λ t. Some (found, t)) same ∙ ap (λ l. Some (l, rest)) (sym (append-nil found)))
+      (ap (λ t. Some (found, t)) same ∙ ap (λ l. Some (l, rest)) (sym (append-nil found)))
   entries_complete comma zero found (x ∷ more) tokens rest b few no_comma f =
       let at = token_begins (cut b).one in
       absurd (omega (arith, few, ap length at.1))
@@ -81,9 +83,9 @@ module _ {A : Type 0} {F : List Lexeme → Type 0} {L : A → Language} {p : Rea
   unfolding read_listed
   listed_exact comma = record {
     sound = λ tokens rest v e.
-      let first = step exact e in
-      let further = entries_sound (length first.mid) (first.value ∷ []) first.mid rest v first.more in
-      subst (λ l. Begins (listed L l) tokens rest) further.1 (then_begins first.spelled further.2);
+        let first = step exact e in
+        let further = entries_sound (length first.mid) (first.value ∷ []) first.mid rest v first.more in
+        subst (λ l. Begins (listed L l) tokens rest) further.1 (then_begins first.spelled further.2);
     complete = λ tokens rest v b f. listed_complete comma tokens rest v b f;
   }
 
@@ -91,15 +93,15 @@ module _ {A : Type 0} {F : List Lexeme → Type 0} {L : A → Language} {p : Rea
   unfolding read_parens
   parens_exact close = record {
     sound = λ tokens rest v e.
-      let opened = step (sign_exact (codes "(")) e in
-      let inside = step exact opened.more in
-      let closed = step (sign_exact (codes ")")) inside.more in
-      done (λ v. parens (L v)) closed.more (then_begins opened.spelled (then_begins inside.spelled closed.spelled));
+        let opened = step (sign_exact (codes "(")) e in
+        let inside = step exact opened.more in
+        let closed = step (sign_exact (codes ")")) inside.more in
+        done (λ v. parens (L v)) closed.more (then_begins opened.spelled (then_begins inside.spelled closed.spelled));
     complete = λ tokens rest v b any.
-      let opened = cut b in
-      let inside = cut opened.other in
-      let at = token_begins inside.other in
-      and_then_some _ ((sign_exact (codes "(")).complete _ _ tt opened.one tt)
+        let opened = cut b in
+        let inside = cut opened.other in
+        let at = token_begins inside.other in
+        and_then_some _ ((sign_exact (codes "(")).complete _ _ tt opened.one tt)
         (and_then_some _ (exact.complete _ _ v inside.one (subst F (sym at.1) (close at.0 rest)))
         (and_then_some _ ((sign_exact (codes ")")).complete _ _ tt inside.other tt) refl));
   }

@@ -1,11 +1,10 @@
 -- What is read where so many parentheses and minuses may still be opened.
-use Rattle.std.proofs.Common.{◌≡◌, ℕ, zero, suc, ◌-◌, ◌<◌, Bool, true, false, if◌then◌else◌, List, Option, Some, None, refl, sym, ap, ◌∙◌, arith, codes, nat_lt}
+use Rattle.std.proofs.Common.{◌≡◌, ℕ, zero, suc, ◌-◌, ◌<◌, true, false, List, None, refl, sym, arith, codes, nat_lt}
 use Rattle.std.proofs.lemmas.Bool.Decides.{nat_tests}
 use Rattle.pooma_parse.specs.declared.expression.Place.{Place}
-use Rattle.pooma_parse.specs.declared.form.RawExpr.{RawExpr}
 use Rattle.pooma_parse.specs.declared.form.RawExpr.TheVariants as tree
 use Rattle.pooma_parse.specs.Languages.{MOST_NUM}
-use Rattle.pooma_parse.specs.Reader.{and_then, begins_named, begins_number, begins_sign, behind, expr_within, primary_within, pure, read_expr, read_named, read_nested, read_number, read_primary, read_unary, refuse, unary_within}
+use Rattle.pooma_parse.specs.Reader.{and_then, begins_named, begins_number, begins_sign, behind, expr_within, primary_within, pure, read_named, read_nested, read_number, read_primary, read_unary, unary_within}
 use Rattle.pooma_parse.specs.Tokens.{Lexeme}
 
 pub primary_number : (place : Place) (n : ℕ) (tokens : List Lexeme) → true ≡ begins_number tokens

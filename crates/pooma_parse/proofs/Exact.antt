@@ -1,7 +1,7 @@
 -- A reader that reads a language and nothing else, and what it takes to show it.
-use Rattle.std.proofs.Common.{◌≡◌, ◌⊎◌, ℕ, Bool, true, false, if◌then◌else◌, List, [], ◌∷◌, ◌++◌, Option, Some, None, refl, sym, ap, ◌∙◌, subst, inl, inr, append_assoc, append-nil}
-use Rattle.pooma_parse.specs.Languages.{Language, Then, nothing, just, ◌⨾◌}
-use Rattle.pooma_parse.specs.Reader.{Reader, and_then, ◌>>=◌}
+use Rattle.std.proofs.Common.{◌≡◌, ◌⊎◌, Bool, true, false, if◌then◌else◌, List, [], ◌++◌, Option, Some, None, refl, sym, ap, ◌∙◌, subst, inl, inr, append_assoc}
+use Rattle.pooma_parse.specs.Languages.{Language, nothing, ◌⨾◌}
+use Rattle.pooma_parse.specs.Reader.{Reader, and_then}
 use Rattle.pooma_parse.specs.Tokens.{Lexeme}
 
 -- the tokens begin with some of the language, and the rest is behind them

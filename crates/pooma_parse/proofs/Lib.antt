@@ -7,6 +7,7 @@ mod LineForms
 mod Operands
 mod Operators
 mod Parts
+mod Places
 mod Readings
 mod Reductions
 mod Trees

@@ -1,8 +1,7 @@
 -- The forms of a line are read as the grammar says.
-use Rattle.std.proofs.Common.{◌≡◌, ◌⊎◌, ℕ, zero, suc, ℤ, ◌≤◌, Bool, true, false, not, if◌then◌else◌, List, [], ◌∷◌, ◌++◌, Option, Some, None, refl, sym, ap, ◌∙◌, subst, inl, inr, arith, codes, Contains, bytes_eq, append-nil}
-use Rattle.std.specs.List.{list_any}
+use Rattle.std.proofs.Common.{◌≡◌, ℕ, ℤ, false, List, [], ◌∷◌, Option, Some, None, refl, sym, ap, ◌∙◌, subst, inl, inr, codes, append-nil}
 use Rattle.pooma_text.specs.declared.span.Span.{Span}
-use Rattle.pooma_text.specs.declared.token.TokenKind.TheVariants.{Word, Number, Sign}
+use Rattle.pooma_text.specs.declared.token.TokenKind.TheVariants.{Sign}
 use Rattle.pooma_parse.specs.declared.expression.Place.TheVariants.{InBody, InLine}
 use Rattle.pooma_parse.specs.declared.form.RawAssign.{RawAssign}
 use Rattle.pooma_parse.specs.declared.form.RawAssign.TheVariants as assign
@@ -11,19 +10,17 @@ use Rattle.pooma_parse.specs.declared.form.RawLine.{RawLine}
 use Rattle.pooma_parse.specs.declared.form.RawLine.TheVariants as line
 use Rattle.pooma_parse.specs.declared.form.RawSub.{RawSub}
 use Rattle.pooma_parse.specs.declared.form.RawView.{RawView}
-use Rattle.pooma_parse.specs.Expressions.{EXPR}
 use Rattle.pooma_parse.specs.Forms.{EXPRESSION, LINE, MOST_NESTING, RED}
-use Rattle.pooma_parse.specs.Languages.{Language, SMALL, listed, name, nothing, parens, sign, word, ◌⨾◌}
-use Rattle.pooma_parse.specs.Lists.{BOX, BRACKETS, CUTTING, LAYERS, SMALLS, UPDATER, VIEW, assign_text}
-use Rattle.pooma_parse.specs.Names.{reserved_words}
-use Rattle.pooma_parse.specs.Reader.{Reader, and_then, begins, begins_sign, begins_word, behind, by_brackets, either_of, ended, expect, expect_word, expr_within, printed, pure, read_array, read_assign_sign, read_assignment, read_block, read_brick, read_declaration, read_end, read_field, read_layout, read_line, read_parens, read_print, read_reduction, read_repeat, read_repeat_end, read_scalar, read_scalar_head, read_statement, read_stencil, read_view}
-use Rattle.pooma_parse.specs.Tokens.{Lexeme, sign_token, word_token}
-use Rattle.pooma_parse.proofs.Atoms.{begins_is, begins_of, bytes_same, contains_among, among_contains, name_begins, name_exact, sign_exact, token_begins, word_exact}
+use Rattle.pooma_parse.specs.Languages.{Language, SMALL, listed, name, parens, sign, word, ◌⨾◌}
+use Rattle.pooma_parse.specs.Lists.{BOX, CUTTING, LAYERS, SMALLS, UPDATER, VIEW, assign_text}
+use Rattle.pooma_parse.specs.Reader.{begins, begins_sign, begins_word, by_brackets, ended, expr_within, printed, read_array, read_assign_sign, read_assignment, read_block, read_brick, read_end, read_field, read_layout, read_parens, read_print, read_reduction, read_repeat, read_repeat_end, read_scalar, read_scalar_head, read_stencil}
+use Rattle.pooma_parse.specs.Tokens.{Lexeme, sign_token}
+use Rattle.pooma_parse.proofs.Atoms.{begins_is, name_exact, sign_exact, token_begins, word_exact}
 use Rattle.pooma_parse.proofs.Commas.{NoSign, listed_exact, parens_exact}
-use Rattle.pooma_parse.proofs.Exact.{Any, Begins, Exact, and_then_some, cut, done, first_of_two, if_cases, if_false, if_true, nothing_begins, nothing_ends, some_same, step, then_begins}
+use Rattle.pooma_parse.proofs.Exact.{Any, Begins, Exact, and_then_some, cut, done, if_cases, nothing_begins, nothing_ends, some_same, step, then_begins}
 use Rattle.pooma_parse.proofs.Operands.{within_exact}
-use Rattle.pooma_parse.proofs.Operators.{Follows, at_end, closes}
-use Rattle.pooma_parse.proofs.Parts.{any_comma, box_exact, cutting_exact, layers_exact, other_sign, other_word, small_exact, smalls_exact, updater_exact, view_exact}
+use Rattle.pooma_parse.proofs.Operators.{at_end, closes}
+use Rattle.pooma_parse.proofs.Parts.{any_comma, box_exact, cutting_exact, layers_exact, other_word, small_exact, smalls_exact, updater_exact, view_exact}
 use Rattle.pooma_parse.proofs.Reductions.{none_first, red_exact, reduction_no_expr}
 
 -- ---- the end of a line
@@ -50,7 +47,6 @@ ends : (x : RawLine) → ended x [] ≡ Some (x, [])
 unfolding read_end
 ends x = refl
 
-
 -- ---- declarations
 
 pub layout_sound : (tokens rest : List Lexeme) (v : RawLine) → read_layout tokens ≡ Some (v, rest) → Finished LINE tokens rest v
@@ -63,7 +59,7 @@ layout_sound tokens rest v e =
     let internal = step (layers_exact (codes "internal")) cutting.more in
     let external = step (layers_exact (codes "external")) internal.more in
     finish LINE _ external.mid rest external.more
-      (then_begins keyword.spelled (then_begins named.spelled (then_begins domain.spelled (then_begins cutting.spelled (then_begins internal.spelled external.spelled)))))
+    (then_begins keyword.spelled (then_begins named.spelled (then_begins domain.spelled (then_begins cutting.spelled (then_begins internal.spelled external.spelled)))))
 
 external_behind : (external : List ℤ) (tokens : List Lexeme) → Begins (LAYERS (codes "external") external) tokens [] → begins_word (codes "internal") tokens ≡ false
 unfolding begins
@@ -84,11 +80,11 @@ layout_complete layout domain cutting internal external tokens l =
     let d = cut c.other in
     let f = cut d.other in
     and_then_some _ ((word_exact (codes "layout")).complete _ _ tt a.one tt)
-      (and_then_some _ (name_exact.complete _ _ layout b.one tt)
-      (and_then_some _ (box_exact.complete _ _ domain c.one tt)
-      (and_then_some _ (cutting_exact.complete _ _ cutting d.one tt)
-      (and_then_some _ ((layers_exact (codes "internal")).complete _ _ internal f.one (external_behind external f.mid f.other))
-      (and_then_some _ ((layers_exact (codes "external")).complete _ _ external f.other (nothing_behind (codes "external"))) (ends _))))))
+    (and_then_some _ (name_exact.complete _ _ layout b.one tt)
+    (and_then_some _ (box_exact.complete _ _ domain c.one tt)
+    (and_then_some _ (cutting_exact.complete _ _ cutting d.one tt)
+    (and_then_some _ ((layers_exact (codes "internal")).complete _ _ internal f.one (external_behind external f.mid f.other))
+    (and_then_some _ ((layers_exact (codes "external")).complete _ _ external f.other (nothing_behind (codes "external"))) (ends _))))))
 
 pub brick_sound : (tokens rest : List Lexeme) (v : RawLine) → read_brick tokens ≡ Some (v, rest) → Finished LINE tokens rest v
 unfolding read_brick
@@ -104,8 +100,8 @@ brick_complete brick domain tokens l =
     let a = cut (line_begins (word (codes "brick") ⨾ name brick ⨾ BOX domain) l) in
     let b = cut a.other in
     and_then_some _ ((word_exact (codes "brick")).complete _ _ tt a.one tt)
-      (and_then_some _ (name_exact.complete _ _ brick b.one tt)
-      (and_then_some _ (box_exact.complete _ _ domain b.other tt) (ends _)))
+    (and_then_some _ (name_exact.complete _ _ brick b.one tt)
+    (and_then_some _ (box_exact.complete _ _ domain b.other tt) (ends _)))
 
 pub array_sound : (tokens rest : List Lexeme) (v : RawLine) → read_array tokens ≡ Some (v, rest) → Finished LINE tokens rest v
 unfolding read_array
@@ -123,9 +119,9 @@ array_complete array layout tokens l =
     let b = cut a.other in
     let c = cut b.other in
     and_then_some _ ((word_exact (codes "array")).complete _ _ tt a.one tt)
-      (and_then_some _ (name_exact.complete _ _ array b.one tt)
-      (and_then_some _ ((word_exact (codes "on")).complete _ _ tt c.one tt)
-      (and_then_some _ (name_exact.complete _ _ layout c.other tt) (ends _))))
+    (and_then_some _ (name_exact.complete _ _ array b.one tt)
+    (and_then_some _ ((word_exact (codes "on")).complete _ _ tt c.one tt)
+    (and_then_some _ (name_exact.complete _ _ layout c.other tt) (ends _))))
 
 pub field_sound : (tokens rest : List Lexeme) (v : RawLine) → read_field tokens ≡ Some (v, rest) → Finished LINE tokens rest v
 unfolding read_field
@@ -137,7 +133,7 @@ field_sound tokens rest v e =
     let faces = step (word_exact (codes "faces")) layout.more in
     let list = step (listed_exact updater_exact any_comma) faces.more in
     finish LINE _ list.mid rest list.more
-      (then_begins keyword.spelled (then_begins named.spelled (then_begins on.spelled (then_begins layout.spelled (then_begins faces.spelled list.spelled)))))
+    (then_begins keyword.spelled (then_begins named.spelled (then_begins on.spelled (then_begins layout.spelled (then_begins faces.spelled list.spelled)))))
 
 no_sign_at_end : (text : List ℕ) → NoSign text []
 unfolding begins
@@ -152,11 +148,11 @@ field_complete field layout faces tokens l =
     let d = cut c.other in
     let f = cut d.other in
     and_then_some _ ((word_exact (codes "field")).complete _ _ tt a.one tt)
-      (and_then_some _ (name_exact.complete _ _ field b.one tt)
-      (and_then_some _ ((word_exact (codes "on")).complete _ _ tt c.one tt)
-      (and_then_some _ (name_exact.complete _ _ layout d.one tt)
-      (and_then_some _ ((word_exact (codes "faces")).complete _ _ tt f.one tt)
-      (and_then_some _ ((listed_exact updater_exact any_comma).complete _ _ faces f.other (no_sign_at_end (codes ","), tt)) (ends _))))))
+    (and_then_some _ (name_exact.complete _ _ field b.one tt)
+    (and_then_some _ ((word_exact (codes "on")).complete _ _ tt c.one tt)
+    (and_then_some _ (name_exact.complete _ _ layout d.one tt)
+    (and_then_some _ ((word_exact (codes "faces")).complete _ _ tt f.one tt)
+    (and_then_some _ ((listed_exact updater_exact any_comma).complete _ _ faces f.other (no_sign_at_end (codes ","), tt)) (ends _))))))
 
 pub stencil_sound : (tokens rest : List Lexeme) (v : RawLine) → read_stencil tokens ≡ Some (v, rest) → Finished LINE tokens rest v
 unfolding read_stencil
@@ -170,15 +166,15 @@ stencil_sound tokens rest v e =
     let equals = step (sign_exact (codes "=")) upper.more in
     let body = step (within_exact InBody MOST_NESTING) equals.more in
     finish LINE _ body.mid rest body.more
-      (then_begins keyword.spelled (then_begins named.spelled (then_begins low.spelled (then_begins lower.spelled
-      (then_begins up.spelled (then_begins upper.spelled (then_begins equals.spelled body.spelled)))))))
+    (then_begins keyword.spelled (then_begins named.spelled (then_begins low.spelled (then_begins lower.spelled
+    (then_begins up.spelled (then_begins upper.spelled (then_begins equals.spelled body.spelled)))))))
 
 pub stencil_complete : (stencil : Span) (lower upper : List ℤ) (body : RawExpr) (tokens : List Lexeme) → LINE (line.Stencil stencil lower upper body) tokens
     → read_stencil tokens ≡ Some (line.Stencil stencil lower upper body, [])
 unfolding read_stencil
 stencil_complete stencil lower upper body tokens l =
     let a = cut (line_begins (word (codes "stencil") ⨾ name stencil ⨾ word (codes "lower") ⨾ SMALLS lower ⨾ word (codes "upper") ⨾ SMALLS upper
-      ⨾ sign (codes "=") ⨾ EXPRESSION InBody body) l) in
+    ⨾ sign (codes "=") ⨾ EXPRESSION InBody body) l) in
     let b = cut a.other in
     let c = cut b.other in
     let d = cut c.other in
@@ -186,13 +182,13 @@ stencil_complete stencil lower upper body tokens l =
     let g = cut f.other in
     let h = cut g.other in
     and_then_some _ ((word_exact (codes "stencil")).complete _ _ tt a.one tt)
-      (and_then_some _ (name_exact.complete _ _ stencil b.one tt)
-      (and_then_some _ ((word_exact (codes "lower")).complete _ _ tt c.one tt)
-      (and_then_some _ (smalls_exact.complete _ _ lower d.one tt)
-      (and_then_some _ ((word_exact (codes "upper")).complete _ _ tt f.one tt)
-      (and_then_some _ (smalls_exact.complete _ _ upper g.one tt)
-      (and_then_some _ ((sign_exact (codes "=")).complete _ _ tt h.one tt)
-      (and_then_some _ ((within_exact InBody MOST_NESTING).complete _ _ body h.other at_end) (ends _))))))))
+    (and_then_some _ (name_exact.complete _ _ stencil b.one tt)
+    (and_then_some _ ((word_exact (codes "lower")).complete _ _ tt c.one tt)
+    (and_then_some _ (smalls_exact.complete _ _ lower d.one tt)
+    (and_then_some _ ((word_exact (codes "upper")).complete _ _ tt f.one tt)
+    (and_then_some _ (smalls_exact.complete _ _ upper g.one tt)
+    (and_then_some _ ((sign_exact (codes "=")).complete _ _ tt h.one tt)
+    (and_then_some _ ((within_exact InBody MOST_NESTING).complete _ _ body h.other at_end) (ends _))))))))
 
 -- ---- statements
 
@@ -207,20 +203,20 @@ assign_exact : Exact Any (λ o. sign (assign_text o)) read_assign_sign
 unfolding read_assign_sign
 assign_exact = record {
   sound = λ tokens rest v e. elim (if_cases (begins_sign (codes "=") tokens) e) [
-      | inl so ↦ done (λ o. sign (assign_text o)) so.1 (begins_is Sign (codes "=") tokens so.0)
-      | inr a ↦ elim (if_cases (begins_sign (codes "+=") tokens) a.1) [
-        | inl so ↦ done (λ o. sign (assign_text o)) so.1 (begins_is Sign (codes "+=") tokens so.0)
-        | inr b ↦ elim (if_cases (begins_sign (codes "-=") tokens) b.1) [
-          | inl so ↦ done (λ o. sign (assign_text o)) so.1 (begins_is Sign (codes "-=") tokens so.0)
-          | inr c ↦ elim (if_cases (begins_sign (codes "*=") tokens) c.1) [
-            | inl so ↦ done (λ o. sign (assign_text o)) so.1 (begins_is Sign (codes "*=") tokens so.0)
-            | inr none ↦ absurd (cc (none.1))
-          ]
+    | inl so ↦ done (λ o. sign (assign_text o)) so.1 (begins_is Sign (codes "=") tokens so.0)
+    | inr a ↦ elim (if_cases (begins_sign (codes "+=") tokens) a.1) [
+      | inl so ↦ done (λ o. sign (assign_text o)) so.1 (begins_is Sign (codes "+=") tokens so.0)
+      | inr b ↦ elim (if_cases (begins_sign (codes "-=") tokens) b.1) [
+        | inl so ↦ done (λ o. sign (assign_text o)) so.1 (begins_is Sign (codes "-=") tokens so.0)
+        | inr c ↦ elim (if_cases (begins_sign (codes "*=") tokens) c.1) [
+          | inl so ↦ done (λ o. sign (assign_text o)) so.1 (begins_is Sign (codes "*=") tokens so.0)
+          | inr none ↦ absurd (cc (none.1))
         ]
       ]
-    ];
+    ]
+  ];
   complete = λ tokens rest v b any.
-    let at = token_begins b in subst (λ s. read_assign_sign s ≡ Some (v, rest)) (sym at.1) (assign_computes v at.0 rest);
+      let at = token_begins b in subst (λ s. read_assign_sign s ≡ Some (v, rest)) (sym at.1) (assign_computes v at.0 rest);
 }
 
 no_bracket : (o : RawAssign) (span : Span) (rest : List Lexeme) → NoSign (codes "[") (sign_token (assign_text o) span ∷ rest)
@@ -246,8 +242,8 @@ assignment_complete target o value tokens l =
     let b = cut a.other in
     let at = token_begins b.one in
     and_then_some _ (view_exact.complete _ _ target a.one (subst (NoSign (codes "[")) (sym at.1) (no_bracket o at.0 b.mid)))
-      (and_then_some _ (assign_exact.complete _ _ o b.one tt)
-      (and_then_some _ ((within_exact InLine MOST_NESTING).complete _ _ value b.other at_end) (ends _)))
+    (and_then_some _ (assign_exact.complete _ _ o b.one tt)
+    (and_then_some _ ((within_exact InLine MOST_NESTING).complete _ _ value b.other at_end) (ends _)))
 
 HEAD : Span → Language
 HEAD scalar = word (codes "scalar") ⨾ name scalar ⨾ sign (codes "=")
@@ -256,14 +252,14 @@ head_exact : Exact Any HEAD read_scalar_head
 unfolding read_scalar_head HEAD
 head_exact = record {
   sound = λ tokens rest v e.
-    let keyword = step (word_exact (codes "scalar")) e in
-    let named = step name_exact keyword.more in
-    let equals = step (sign_exact (codes "=")) named.more in
-    done HEAD equals.more (then_begins keyword.spelled (then_begins named.spelled equals.spelled));
+      let keyword = step (word_exact (codes "scalar")) e in
+      let named = step name_exact keyword.more in
+      let equals = step (sign_exact (codes "=")) named.more in
+      done HEAD equals.more (then_begins keyword.spelled (then_begins named.spelled equals.spelled));
   complete = λ tokens rest v b any.
-    let a = cut b in
-    let c = cut a.other in
-    and_then_some _ ((word_exact (codes "scalar")).complete _ _ tt a.one tt)
+      let a = cut b in
+      let c = cut a.other in
+      and_then_some _ ((word_exact (codes "scalar")).complete _ _ tt a.one tt)
       (and_then_some _ (name_exact.complete _ _ v c.one tt)
       (and_then_some _ ((sign_exact (codes "=")).complete _ _ tt c.other tt) refl));
 }
@@ -302,7 +298,7 @@ unfolding read_scalar
 scalar_complete scalar value tokens l =
     let h = unheaded (line_begins (word (codes "scalar") ⨾ name scalar ⨾ sign (codes "=") ⨾ EXPRESSION InLine value) l) in
     and_then_some _ (head_exact.complete _ _ scalar h.head tt)
-      (and_then_some _ ((within_exact InLine MOST_NESTING).complete _ _ value h.other at_end) (ends _))
+    (and_then_some _ ((within_exact InLine MOST_NESTING).complete _ _ value h.other at_end) (ends _))
 
 inside_exact : Exact Any (λ v. parens (EXPRESSION InLine v)) (read_parens (expr_within InLine MOST_NESTING))
 inside_exact = parens_exact (within_exact InLine MOST_NESTING) closes
@@ -322,8 +318,8 @@ reduction_complete scalar reduction value tokens l =
     let h = unheaded (line_begins (word (codes "scalar") ⨾ name scalar ⨾ sign (codes "=") ⨾ RED reduction ⨾ parens (EXPRESSION InLine value)) l) in
     let a = cut h.other in
     and_then_some _ (head_exact.complete _ _ scalar h.head tt)
-      (and_then_some _ (red_exact.complete _ _ reduction a.one tt)
-      (and_then_some _ (inside_exact.complete _ _ value a.other tt) (ends _)))
+    (and_then_some _ (red_exact.complete _ _ reduction a.one tt)
+    (and_then_some _ (inside_exact.complete _ _ value a.other tt) (ends _)))
 
 -- a reduction is no scalar of an expression
 pub no_scalar : (scalar reduction : Span) (value : RawExpr) (tokens : List Lexeme) → LINE (line.Reduce scalar reduction value) tokens → read_scalar tokens ≡ None
@@ -332,7 +328,7 @@ no_scalar scalar reduction value tokens l =
     let h = unheaded (line_begins (word (codes "scalar") ⨾ name scalar ⨾ sign (codes "=") ⨾ RED reduction ⨾ parens (EXPRESSION InLine value)) l) in
     let a = cut h.other in
     and_then_some _ (head_exact.complete _ _ scalar h.head tt)
-      (none_first _ (reduction_no_expr 63 reduction value h.mid a.mid [] a.one a.other))
+    (none_first _ (reduction_no_expr 63 reduction value h.mid a.mid [] a.one a.other))
 
 printed_says : (printed_name : Span) (subs : Option (List RawSub)) {tokens : List Lexeme} → Begins (word (codes "print") ⨾ VIEW (record { name = printed_name; subs = subs })) tokens []
     → LINE (by_brackets (record { name = printed_name; subs = subs }) subs) tokens
@@ -365,7 +361,7 @@ bracketed_complete printed_name (Some subs) tokens l =
     let seen : RawView = record { name = printed_name; subs = Some subs } in
     let a = cut (line_begins (word (codes "print") ⨾ VIEW seen) l) in
     and_then_some _ ((word_exact (codes "print")).complete _ _ tt a.one tt)
-      (and_then_some _ (view_exact.complete _ _ seen a.other (no_sign_at_end (codes "["))) (ends _))
+    (and_then_some _ (view_exact.complete _ _ seen a.other (no_sign_at_end (codes "["))) (ends _))
 
 pub print_view_complete : (seen : RawView) (tokens : List Lexeme) → LINE (line.PrintView seen) tokens → read_print tokens ≡ Some (line.PrintView seen, [])
 print_view_complete seen tokens l = bracketed_complete seen.name seen.subs tokens l
@@ -375,7 +371,7 @@ unfolding read_print
 print_name_complete printed_name tokens l =
     let a = cut (line_begins (word (codes "print") ⨾ name printed_name) l) in
     and_then_some _ ((word_exact (codes "print")).complete _ _ tt a.one tt)
-      (and_then_some _ (view_exact.complete _ _ (record { name = printed_name; subs = None }) (then_begins a.other (nothing_begins [])) (no_sign_at_end (codes "["))) (ends _))
+    (and_then_some _ (view_exact.complete _ _ (record { name = printed_name; subs = None }) (then_begins a.other (nothing_begins [])) (no_sign_at_end (codes "["))) (ends _))
 
 pub block_sound : (tokens rest : List Lexeme) (v : RawLine) → read_block tokens ≡ Some (v, rest) → Finished LINE tokens rest v
 unfolding read_block

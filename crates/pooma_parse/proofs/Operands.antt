@@ -1,7 +1,7 @@
 -- Expressions are read as the grammar says: UNARY and PRIMARY.
-use Rattle.std.proofs.Common.{◌≡◌, ◌⊎◌, ℕ, zero, suc, ℤ, max, ◌<◌, ◌≤◌, Bool, true, false, not, if◌then◌else◌, List, [], ◌∷◌, ◌++◌, Option, Some, None, refl, sym, ap, ◌∙◌, subst, inl, inr, arith, codes, Contains, bytes_eq}
+use Rattle.std.proofs.Common.{◌≡◌, ℕ, zero, suc, ℤ, ◌≤◌, Bool, true, false, not, List, Option, Some, None, refl, sym, ap, ◌∙◌, subst, inl, inr, arith, codes, Contains, bytes_eq}
 use Rattle.pooma_text.specs.declared.span.Span.{Span}
-use Rattle.pooma_text.specs.declared.token.TokenKind.TheVariants.{Word, Number, Sign}
+use Rattle.pooma_text.specs.declared.token.TokenKind.TheVariants.{Word, Sign}
 use Rattle.pooma_parse.specs.declared.expression.Place.{Place}
 use Rattle.pooma_parse.specs.declared.expression.Place.TheVariants.{InBody, InLine}
 use Rattle.pooma_parse.specs.declared.form.RawExpr.{RawExpr}
@@ -10,17 +10,16 @@ use Rattle.pooma_parse.specs.declared.form.RawOp.{RawOp}
 use Rattle.pooma_parse.specs.declared.form.RawOp.TheVariants as op
 use Rattle.pooma_parse.specs.declared.form.RawView.{RawView}
 use Rattle.pooma_parse.specs.declared.form.RawSub.{RawSub}
-use Rattle.pooma_parse.specs.Expressions
-use Rattle.pooma_parse.specs.Expressions.{Level, ADD, AND, COMPARE, EXPR, MUL, PRIMARY, UNARY, IsRepeated, add_of_muls, and_of_compares, expr_of_ands, mul_of_unaries, Says, absolute, apply, at, choice, group, index, literal, minus, nesting, of_both, of_two, operator_text, primary, repeated, view}
-use Rattle.pooma_parse.specs.Languages.{Language, INT, MOST_NUM, NUM, SMALL, Then, just, listed, name, nothing, parens, sign, word, ◌⨾◌}
+use Rattle.pooma_parse.specs.Expressions.{EXPR, PRIMARY, UNARY, add_of_muls, and_of_compares, expr_of_ands, mul_of_unaries, Says, absolute, apply, at, choice, group, index, literal, minus, nesting, of_both, of_two, operator_text, primary, repeated, view}
+use Rattle.pooma_parse.specs.Languages.{Language, INT, MOST_NUM, NUM, SMALL, just, listed, name, parens, sign, word, ◌⨾◌}
 use Rattle.pooma_parse.specs.Lists.{BRACKETS, SUB, VIEW}
-use Rattle.pooma_parse.specs.Reader.{Reader, and_then, begins, begins_name, begins_named, begins_number, begins_sign, begins_word, behind, expect_sign, expect_word, expr_within, is_reserved, pure, read_both, read_brackets, read_choice, read_expr, read_int, read_listed, read_named, read_name, read_nested, read_number, read_own, read_parens, read_primary, read_small, read_unary, read_view, refuse, unary_within, ◌>>=◌, ◌>>◌}
-use Rattle.pooma_parse.specs.Tokens.{Lexeme, number_token, sign_token, word_token}
+use Rattle.pooma_parse.specs.Reader.{Reader, begins, begins_name, begins_named, begins_number, begins_sign, begins_word, expect_sign, expect_word, expr_within, is_reserved, pure, read_both, read_choice, read_expr, read_int, read_listed, read_named, read_nested, read_own, read_parens, read_primary, read_small, read_unary, refuse, unary_within, ◌>>◌}
+use Rattle.pooma_parse.specs.Tokens.{Lexeme}
 use Rattle.pooma_parse.proofs.Atoms.{begins_is, begins_of, name_begins, name_exact, name_test, number_begins, number_exact, number_no_sign, sign_exact, token_begins, word_exact}
-use Rattle.pooma_parse.proofs.Commas.{Before, BeforeComma, NoSign, listed_exact, parens_exact}
-use Rattle.pooma_parse.proofs.Exact.{Any, Begins, Cut, Exact, and_then_some, cut, done, first_of_two, if_cases, if_false, if_true, nothing_begins, nothing_ends, some_same, step, then_begins}
+use Rattle.pooma_parse.proofs.Commas.{Before, NoSign, parens_exact}
+use Rattle.pooma_parse.proofs.Exact.{Any, Begins, Exact, and_then_some, cut, done, first_of_two, if_cases, if_false, if_true, nothing_ends, step, then_begins}
 use Rattle.pooma_parse.proofs.Operators.{AfterUnary, Follows, before_comma, closes}
-use Rattle.pooma_parse.proofs.Parts.{any_comma, brackets_exact, closes_list, int_exact, ints_exact, other_sign, small_exact, view_exact}
+use Rattle.pooma_parse.proofs.Parts.{brackets_exact, closes_list, ints_exact, other_sign, small_exact, view_exact}
 use Rattle.pooma_parse.proofs.Trees.{Deep, as_just, compared_exact, from_just, repeated_exact}
 
 -- from UNARY up to EXPR
@@ -132,8 +131,8 @@ unfolding read_named
 view_complete deep seen tokens rest b f =
     let first = cut b in
     and_then_some _ (name_exact.complete _ _ seen.name first.one tt)
-      (if_false _ (brackets_no_paren seen.subs first.mid rest first.other f.0)
-      (and_then_some _ (brackets_exact.complete _ _ seen.subs first.other f.1) refl))
+    (if_false _ (brackets_no_paren seen.subs first.mid rest first.other f.0)
+    (and_then_some _ (brackets_exact.complete _ _ seen.subs first.other f.1) refl))
 
 apply_complete : (stencil : Span) (seen : RawView) (tokens rest : List Lexeme) → Begins (name stencil ⨾ parens (VIEW seen)) tokens rest
     → read_named true tokens ≡ Some (tree.Apply stencil seen, rest)
@@ -141,8 +140,8 @@ unfolding read_named
 apply_complete stencil seen tokens rest b =
     let first = cut b in
     and_then_some _ (name_exact.complete _ _ stencil first.one tt)
-      (if_true _ (begins_of (cut first.other).one).0
-      (and_then_some _ ((parens_exact view_exact closes_view).complete _ _ seen first.other tt) refl))
+    (if_true _ (begins_of (cut first.other).one).0
+    (and_then_some _ ((parens_exact view_exact closes_view).complete _ _ seen first.other tt) refl))
 
 own_sound : (place : Place) (n : ℕ) (tokens rest : List Lexeme) (v : RawExpr) → read_own place tokens ≡ Some (v, rest) → Begins (Deep place PRIMARY (suc n) v) tokens rest
 unfolding read_own
@@ -195,26 +194,26 @@ primary_sound : (place : Place) (deep : Bool) (n : ℕ) (inner : Reader RawExpr)
     → (tokens rest : List Lexeme) (v : RawExpr) → read_primary place deep inner tokens ≡ Some (v, rest) → Begins (Deep place PRIMARY n v) tokens rest
 unfolding read_primary
 primary_sound place deep n inner deep_enough nested tokens rest v e = elim (if_cases (begins_number tokens) e) [
+  | inl so ↦
+      let k = step (number_exact MOST_NUM) so.1 in
+      done (Deep place PRIMARY n) k.more (record { front = k.spelled.front; spelled = (literal k.value k.spelled.spelled, omega arith); whole = k.spelled.whole })
+  | inr other ↦ elim (if_cases (begins_named place tokens) other.1) [
     | inl so ↦
-        let k = step (number_exact MOST_NUM) so.1 in
-        done (Deep place PRIMARY n) k.more (record { front = k.spelled.front; spelled = (literal k.value k.spelled.spelled, omega arith); whole = k.spelled.whole })
-    | inr other ↦ elim (if_cases (begins_named place tokens) other.1) [
-      | inl so ↦
-          let here = named_place place tokens so.0 in
-          subst (λ p. Begins (Deep p PRIMARY n v) tokens rest) (sym here) (named_sound deep n deep_enough tokens rest v so.1)
-      | inr none ↦ elim (if_cases deep none.1) [
-        | inl opens ↦ nested opens.0 tokens rest v opens.1
-        | inr shut ↦ absurd (cc (shut.1))
-      ]
+        let here = named_place place tokens so.0 in
+        subst (λ p. Begins (Deep p PRIMARY n v) tokens rest) (sym here) (named_sound deep n deep_enough tokens rest v so.1)
+    | inr none ↦ elim (if_cases deep none.1) [
+      | inl opens ↦ nested opens.0 tokens rest v opens.1
+      | inr shut ↦ absurd (cc (shut.1))
     ]
   ]
+]
 
 -- the same, where the place is known by an equation
 view_first : (deep : Bool) (inner : Reader RawExpr) (seen : RawView) {place : Place} → place ≡ InLine → (tokens rest : List Lexeme) → Begins (VIEW seen) tokens rest → AfterUnary rest
     → read_primary place deep inner tokens ≡ Some (tree.View seen, rest)
 view_first deep inner seen here tokens rest b f =
     subst (λ p. read_primary p deep inner tokens ≡ Some (tree.View seen, rest)) (sym here)
-      (name_first deep inner seen.name tokens _ (cut b).one (view_complete deep seen tokens rest b f))
+    (name_first deep inner seen.name tokens _ (cut b).one (view_complete deep seen tokens rest b f))
 
 -- what stands before another phrase is no minus sign
 primary_no_minus : {place : Place} {v : RawExpr} {front tokens rest : List Lexeme} → Says place PRIMARY front v → Begins (just front) tokens rest → NoSign (codes "-") tokens
@@ -269,10 +268,10 @@ module _ {place : Place} {n : ℕ} {inner : Reader RawExpr} (exact : Exact (Foll
       let comma = token_begins two.one in
       let close = token_begins inside.other in
       and_then_some _ ((sign_exact (codes "(")).complete _ _ tt opened.one tt)
-        (and_then_some _ (exact.complete _ _ x (from_just one.one (left, shallow_left)) (subst (Follows EXPR) (sym comma.1) (before_comma comma.0 two.mid)))
-        (and_then_some _ ((sign_exact (codes ",")).complete _ _ tt two.one tt)
-        (and_then_some _ (exact.complete _ _ y (from_just two.other (right, shallow_right)) (subst (Follows EXPR) (sym close.1) (closes close.0 _)))
-        (and_then_some _ ((sign_exact (codes ")")).complete _ _ tt inside.other tt) refl))))
+      (and_then_some _ (exact.complete _ _ x (from_just one.one (left, shallow_left)) (subst (Follows EXPR) (sym comma.1) (before_comma comma.0 two.mid)))
+      (and_then_some _ ((sign_exact (codes ",")).complete _ _ tt two.one tt)
+      (and_then_some _ (exact.complete _ _ y (from_just two.other (right, shallow_right)) (subst (Follows EXPR) (sym close.1) (closes close.0 _)))
+      (and_then_some _ ((sign_exact (codes ")")).complete _ _ tt inside.other tt) refl))))
 
   choice_sound : (tokens mid rest : List Lexeme) (v : RawExpr) → Begins (word (codes "where")) tokens mid → read_choice inner mid ≡ Some (v, rest) → Begins (Nested v) tokens rest
   unfolding read_choice
@@ -288,8 +287,10 @@ module _ {place : Place} {n : ℕ} {inner : Reader RawExpr} (exact : Exact (Foll
       let whole = then_begins named (then_begins opened.spelled (then_begins inside closed.spelled)) in
       done Nested closed.more (record {
         front = whole.front;
-        spelled = (choice test.spelled.spelled.0 one.spelled.spelled.0 other.spelled.spelled.0 whole.spelled,
-          omega (arith, test.spelled.spelled.1, one.spelled.spelled.1, other.spelled.spelled.1));
+        spelled = (
+          choice test.spelled.spelled.0 one.spelled.spelled.0 other.spelled.spelled.0 whole.spelled,
+          omega (arith, test.spelled.spelled.1, one.spelled.spelled.1, other.spelled.spelled.1),
+        );
         whole = whole.whole;
       })
 
@@ -309,44 +310,44 @@ module _ {place : Place} {n : ℕ} {inner : Reader RawExpr} (exact : Exact (Foll
       let again = token_begins s.one in
       let close = token_begins inside.other in
       and_then_some _ ((sign_exact (codes "(")).complete _ _ tt opened.one tt)
-        (and_then_some _ (exact.complete _ _ x (from_just p.one (test, shallow_test)) (subst (Follows EXPR) (sym comma.1) (before_comma comma.0 q.mid)))
-        (and_then_some _ ((sign_exact (codes ",")).complete _ _ tt q.one tt)
-        (and_then_some _ (exact.complete _ _ y (from_just r.one (one, shallow_one)) (subst (Follows EXPR) (sym again.1) (before_comma again.0 s.mid)))
-        (and_then_some _ ((sign_exact (codes ",")).complete _ _ tt s.one tt)
-        (and_then_some _ (exact.complete _ _ z (from_just s.other (other, shallow_other)) (subst (Follows EXPR) (sym close.1) (closes close.0 _)))
-        (and_then_some _ ((sign_exact (codes ")")).complete _ _ tt inside.other tt) refl))))))
+      (and_then_some _ (exact.complete _ _ x (from_just p.one (test, shallow_test)) (subst (Follows EXPR) (sym comma.1) (before_comma comma.0 q.mid)))
+      (and_then_some _ ((sign_exact (codes ",")).complete _ _ tt q.one tt)
+      (and_then_some _ (exact.complete _ _ y (from_just r.one (one, shallow_one)) (subst (Follows EXPR) (sym again.1) (before_comma again.0 s.mid)))
+      (and_then_some _ ((sign_exact (codes ",")).complete _ _ tt s.one tt)
+      (and_then_some _ (exact.complete _ _ z (from_just s.other (other, shallow_other)) (subst (Follows EXPR) (sym close.1) (closes close.0 _)))
+      (and_then_some _ ((sign_exact (codes ")")).complete _ _ tt inside.other tt) refl))))))
 
   nested_sound : (tokens rest : List Lexeme) (v : RawExpr) → read_nested place inner tokens ≡ Some (v, rest) → Begins (Nested v) tokens rest
   unfolding read_nested
   nested_sound tokens rest v e = elim (if_cases (begins_sign (codes "(") tokens) e) [
+    | inl so ↦
+        let inside = parenthesised (inside_exact.sound tokens rest v so.1) in
+        record { front = inside.around.front; spelled = (group inside.inside.0 inside.around.spelled, omega (arith, inside.inside.1)); whole = inside.around.whole }
+    | inr a ↦ elim (if_cases (begins_word (codes "abs") tokens) a.1) [
       | inl so ↦
-          let inside = parenthesised (inside_exact.sound tokens rest v so.1) in
-          record { front = inside.around.front; spelled = (group inside.inside.0 inside.around.spelled, omega (arith, inside.inside.1)); whole = inside.around.whole }
-      | inr a ↦ elim (if_cases (begins_word (codes "abs") tokens) a.1) [
-        | inl so ↦
-            let only = step inside_exact so.1 in
-            let inside = parenthesised only.spelled in
-            let whole = then_begins (begins_is Word (codes "abs") tokens so.0) inside.around in
-            done Nested only.more (record { front = whole.front; spelled = (absolute inside.inside.0 whole.spelled, omega (arith, inside.inside.1)); whole = whole.whole })
-        | inr b ↦ elim (if_cases (begins_word (codes "min") tokens) b.1) [
-          | inl so ↦ both_sound op.Min (zero, omega arith, refl) tokens _ rest v (begins_is Word (codes "min") tokens so.0) so.1
-          | inr c ↦ elim (if_cases (begins_word (codes "max") tokens) c.1) [
-            | inl so ↦ both_sound op.Max (suc zero, omega arith, refl) tokens _ rest v (begins_is Word (codes "max") tokens so.0) so.1
-            | inr d ↦ elim (if_cases (begins_word (codes "where") tokens) d.1) [
-              | inl so ↦ choice_sound tokens _ rest v (begins_is Word (codes "where") tokens so.0) so.1
-              | inr own ↦ own_sound place n tokens rest v own.1
-            ]
+          let only = step inside_exact so.1 in
+          let inside = parenthesised only.spelled in
+          let whole = then_begins (begins_is Word (codes "abs") tokens so.0) inside.around in
+          done Nested only.more (record { front = whole.front; spelled = (absolute inside.inside.0 whole.spelled, omega (arith, inside.inside.1)); whole = whole.whole })
+      | inr b ↦ elim (if_cases (begins_word (codes "min") tokens) b.1) [
+        | inl so ↦ both_sound op.Min (zero, omega arith, refl) tokens _ rest v (begins_is Word (codes "min") tokens so.0) so.1
+        | inr c ↦ elim (if_cases (begins_word (codes "max") tokens) c.1) [
+          | inl so ↦ both_sound op.Max (suc zero, omega arith, refl) tokens _ rest v (begins_is Word (codes "max") tokens so.0) so.1
+          | inr d ↦ elim (if_cases (begins_word (codes "where") tokens) d.1) [
+            | inl so ↦ choice_sound tokens _ rest v (begins_is Word (codes "where") tokens so.0) so.1
+            | inr own ↦ own_sound place n tokens rest v own.1
           ]
         ]
       ]
     ]
+  ]
 
   group_complete : (v : RawExpr) (tokens rest : List Lexeme) → Begins (parens (Deep place EXPR n v)) tokens rest → read_primary place true inner tokens ≡ Some (v, rest)
   unfolding read_nested
   group_complete v tokens rest b =
       let first = (cut b).one in
       nested_first place inner tokens (sign_no_number (codes "(") first) (sign_no_name (codes "(") first)
-        (if_true _ (begins_of first).0 (inside_exact.complete tokens rest v b tt))
+      (if_true _ (begins_of first).0 (inside_exact.complete tokens rest v b tt))
 
   absolute_complete : (v : RawExpr) (tokens rest : List Lexeme) → Begins (word (codes "abs") ⨾ parens (Deep place EXPR n v)) tokens rest
       → read_primary place true inner tokens ≡ Some (tree.Abs v, rest)
@@ -355,33 +356,33 @@ module _ {place : Place} {n : ℕ} {inner : Reader RawExpr} (exact : Exact (Foll
       let first = cut b in
       let at = begins_of first.one in
       nested_first place inner tokens (word_no_number (codes "abs") first.one) (reserved_no_name (codes "abs") refl first.one)
-        (if_false _ (first_word (codes "abs") (codes "(") first.one)
-        (if_true _ at.0 (and_then_some _ (ap (read_parens inner) at.1 ∙ inside_exact.complete _ _ v first.other tt) refl)))
+      (if_false _ (first_word (codes "abs") (codes "(") first.one)
+      (if_true _ at.0 (and_then_some _ (ap (read_parens inner) at.1 ∙ inside_exact.complete _ _ v first.other tt) refl)))
 
   min_complete : {mid : List Lexeme} (tokens : List Lexeme) {r : Option (RawExpr × List Lexeme)} → Begins (word (codes "min")) tokens mid → read_both op.Min inner mid ≡ r → read_primary place true inner tokens ≡ r
   unfolding read_nested is_reserved
   min_complete tokens b e =
       let at = begins_of b in
       nested_first place inner tokens (word_no_number (codes "min") b) (reserved_no_name (codes "min") refl b)
-        (if_false _ (first_word (codes "min") (codes "(") b) (if_false _ (next_word (codes "min") (codes "abs") refl b)
-        (if_true _ at.0 (ap (read_both op.Min inner) at.1 ∙ e))))
+      (if_false _ (first_word (codes "min") (codes "(") b) (if_false _ (next_word (codes "min") (codes "abs") refl b)
+      (if_true _ at.0 (ap (read_both op.Min inner) at.1 ∙ e))))
 
   max_complete : {mid : List Lexeme} (tokens : List Lexeme) {r : Option (RawExpr × List Lexeme)} → Begins (word (codes "max")) tokens mid → read_both op.Max inner mid ≡ r → read_primary place true inner tokens ≡ r
   unfolding read_nested is_reserved
   max_complete tokens b e =
       let at = begins_of b in
       nested_first place inner tokens (word_no_number (codes "max") b) (reserved_no_name (codes "max") refl b)
-        (if_false _ (first_word (codes "max") (codes "(") b) (if_false _ (next_word (codes "max") (codes "abs") refl b) (if_false _ (next_word (codes "max") (codes "min") refl b)
-        (if_true _ at.0 (ap (read_both op.Max inner) at.1 ∙ e)))))
+      (if_false _ (first_word (codes "max") (codes "(") b) (if_false _ (next_word (codes "max") (codes "abs") refl b) (if_false _ (next_word (codes "max") (codes "min") refl b)
+      (if_true _ at.0 (ap (read_both op.Max inner) at.1 ∙ e)))))
 
   where_complete : {mid : List Lexeme} (tokens : List Lexeme) {r : Option (RawExpr × List Lexeme)} → Begins (word (codes "where")) tokens mid → read_choice inner mid ≡ r → read_primary place true inner tokens ≡ r
   unfolding read_nested is_reserved
   where_complete tokens b e =
       let at = begins_of b in
       nested_first place inner tokens (word_no_number (codes "where") b) (reserved_no_name (codes "where") refl b)
-        (if_false _ (first_word (codes "where") (codes "(") b) (if_false _ (next_word (codes "where") (codes "abs") refl b)
-        (if_false _ (next_word (codes "where") (codes "min") refl b) (if_false _ (next_word (codes "where") (codes "max") refl b)
-        (if_true _ at.0 (ap (read_choice inner) at.1 ∙ e))))))
+      (if_false _ (first_word (codes "where") (codes "(") b) (if_false _ (next_word (codes "where") (codes "abs") refl b)
+      (if_false _ (next_word (codes "where") (codes "min") refl b) (if_false _ (next_word (codes "where") (codes "max") refl b)
+      (if_true _ at.0 (ap (read_choice inner) at.1 ∙ e))))))
 
   index_first : (axis : ℤ) → place ≡ InLine → (tokens rest : List Lexeme) → Begins (word (codes "index") ⨾ parens (SMALL axis)) tokens rest
       → read_primary place true inner tokens ≡ Some (tree.Index axis, rest)
@@ -389,10 +390,10 @@ module _ {place : Place} {n : ℕ} {inner : Reader RawExpr} (exact : Exact (Foll
   index_first axis here tokens rest b =
       let first = (cut b).one in
       nested_first place inner tokens (word_no_number (codes "index") first) (reserved_no_name (codes "index") refl first)
-        (if_false _ (first_word (codes "index") (codes "(") first) (if_false _ (next_word (codes "index") (codes "abs") refl first)
-        (if_false _ (next_word (codes "index") (codes "min") refl first) (if_false _ (next_word (codes "index") (codes "max") refl first)
-        (if_false _ (next_word (codes "index") (codes "where") refl first)
-        (subst (λ p. read_own p tokens ≡ Some (tree.Index axis, rest)) (sym here) (index_complete axis tokens rest b)))))))
+      (if_false _ (first_word (codes "index") (codes "(") first) (if_false _ (next_word (codes "index") (codes "abs") refl first)
+      (if_false _ (next_word (codes "index") (codes "min") refl first) (if_false _ (next_word (codes "index") (codes "max") refl first)
+      (if_false _ (next_word (codes "index") (codes "where") refl first)
+      (subst (λ p. read_own p tokens ≡ Some (tree.Index axis, rest)) (sym here) (index_complete axis tokens rest b)))))))
 
   at_first : (offset : List ℤ) → place ≡ InBody → (tokens rest : List Lexeme) → Begins (sign (codes "@") ⨾ parens (listed INT offset)) tokens rest
       → read_primary place true inner tokens ≡ Some (tree.At offset, rest)
@@ -400,16 +401,16 @@ module _ {place : Place} {n : ℕ} {inner : Reader RawExpr} (exact : Exact (Foll
   at_first offset here tokens rest b =
       let first = (cut b).one in
       nested_first place inner tokens (sign_no_number (codes "@") first) (sign_no_name (codes "@") first)
-        (if_false _ (other_sign (codes "@") (codes "(") refl first) (if_false _ (sign_no_word (codes "@") (codes "abs") first)
-        (if_false _ (sign_no_word (codes "@") (codes "min") first) (if_false _ (sign_no_word (codes "@") (codes "max") first)
-        (if_false _ (sign_no_word (codes "@") (codes "where") first)
-        (subst (λ p. read_own p tokens ≡ Some (tree.At offset, rest)) (sym here) (at_complete offset tokens rest b)))))))
+      (if_false _ (other_sign (codes "@") (codes "(") refl first) (if_false _ (sign_no_word (codes "@") (codes "abs") first)
+      (if_false _ (sign_no_word (codes "@") (codes "min") first) (if_false _ (sign_no_word (codes "@") (codes "max") first)
+      (if_false _ (sign_no_word (codes "@") (codes "where") first)
+      (subst (λ p. read_own p tokens ≡ Some (tree.At offset, rest)) (sym here) (at_complete offset tokens rest b)))))))
 
   apply_first : (stencil : Span) (seen : RawView) → place ≡ InLine → (tokens rest : List Lexeme) → Begins (name stencil ⨾ parens (VIEW seen)) tokens rest
       → read_primary place true inner tokens ≡ Some (tree.Apply stencil seen, rest)
   apply_first stencil seen here tokens rest b =
       subst (λ p. read_primary p true inner tokens ≡ Some (tree.Apply stencil seen, rest)) (sym here)
-        (name_first true inner stencil tokens _ (cut b).one (apply_complete stencil seen tokens rest b))
+      (name_first true inner stencil tokens _ (cut b).one (apply_complete stencil seen tokens rest b))
 
   primary_complete : {v : RawExpr} {front : List Lexeme} (says : Says place PRIMARY front v) (tokens rest : List Lexeme) → nesting says ≤ suc n
       → Begins (just front) tokens rest → AfterUnary rest → read_primary place true inner tokens ≡ Some (v, rest)
@@ -464,14 +465,17 @@ module _ {place : Place} {n : ℕ} {inner : Reader RawExpr} (exact : Exact (Foll
   unfolding read_unary
   deeper_exact unary below = record {
     sound = λ tokens rest v e. elim (if_cases (begins_sign (codes "-") tokens) e) [
-        | inl so ↦
-            let operand = step below so.1 in
-            let whole = then_begins (begins_is Sign (codes "-") tokens so.0) (as_just operand.spelled) in
-            done (Deep place UNARY (suc n)) operand.more (record {
-              front = whole.front; spelled = (minus operand.spelled.spelled.0 whole.spelled, omega (arith, operand.spelled.spelled.1)); whole = whole.whole })
-        | inr other ↦
-            as_unary (primary_sound place true (suc n) inner (λ _. omega arith) (λ _. nested_sound) tokens rest v other.1)
-      ];
+      | inl so ↦
+          let operand = step below so.1 in
+          let whole = then_begins (begins_is Sign (codes "-") tokens so.0) (as_just operand.spelled) in
+          done (Deep place UNARY (suc n)) operand.more (record {
+            front = whole.front;
+            spelled = (minus operand.spelled.spelled.0 whole.spelled, omega (arith, operand.spelled.spelled.1));
+            whole = whole.whole;
+          })
+      | inr other ↦
+          as_unary (primary_sound place true (suc n) inner (λ _. omega arith) (λ _. nested_sound) tokens rest v other.1)
+    ];
     complete = λ tokens rest v b f. unary_complete unary below b.spelled.0 tokens rest b.spelled.1 (as_just b) f;
   }
 
@@ -504,9 +508,9 @@ shut_exact : (place : Place) → Exact AfterUnary (Deep place UNARY 0) (read_una
 unfolding read_unary
 shut_exact place = record {
   sound = λ tokens rest v e. elim (if_cases (begins_sign (codes "-") tokens) e) [
-      | inl so ↦ absurd (cc (so.1))
-      | inr other ↦ as_unary (primary_sound place false 0 refuse (λ e. absurd (cc)) (no_nested place 0) tokens rest v other.1)
-    ];
+    | inl so ↦ absurd (cc (so.1))
+    | inr other ↦ as_unary (primary_sound place false 0 refuse (λ e. absurd (cc)) (no_nested place 0) tokens rest v other.1)
+  ];
   complete = λ tokens rest v b f. shut_unary place b.spelled.0 tokens rest b.spelled.1 (as_just b) f;
 }
 

@@ -1,9 +1,8 @@
 -- Which operator comes next, and what may stand behind an operand.
-use Rattle.std.proofs.Common.{◌≡◌, ◌⊎◌, ℕ, zero, suc, ◌<◌, ◌≤◌, Bool, true, false, if◌then◌else◌, List, [], ◌∷◌, Option, Some, None, refl, sym, ap, ◌∙◌, subst, inl, inr, arith, codes, Contains}
+use Rattle.std.proofs.Common.{◌≡◌, ◌⊎◌, zero, suc, true, List, [], ◌∷◌, Option, Some, None, refl, subst, inl, inr, arith, codes, Contains}
 use Rattle.pooma_text.specs.declared.span.Span.{Span}
-use Rattle.pooma_text.specs.declared.token.TokenKind.TheVariants.{Word, Number, Sign}
+use Rattle.pooma_text.specs.declared.token.TokenKind.TheVariants.{Sign}
 use Rattle.pooma_parse.specs.declared.form.RawOp.{RawOp}
-use Rattle.pooma_parse.specs.declared.form.RawOp.TheVariants as op
 use Rattle.pooma_parse.specs.Expressions.{Level, ADD, AND, COMPARE, EXPR, MUL, PRIMARY, UNARY, IsRepeated, add_of_muls, and_of_compares, expr_of_ands, mul_of_unaries, operator_text, operators}
 use Rattle.pooma_parse.specs.Languages.{sign}
 use Rattle.pooma_parse.specs.Reader.{Reader, begins, begins_sign, behind, by_operator, operator_among, operator_at}
@@ -101,13 +100,13 @@ pub operator_among_is : (ops : List RawOp) (tokens : List Lexeme) (o : RawOp) �
     → Contains ops o × (begins_sign (operator_text o) tokens ≡ true)
 operator_among_is [] tokens o e = absurd (cc)
 operator_among_is (x ∷ ops) tokens o e = elim (if_cases (begins_sign (operator_text x) tokens) e) [
-    | inl so ↦
-        let same = some_same so.1 in
-        ((zero, omega arith, same), subst (λ y. begins_sign (operator_text y) tokens ≡ true) same so.0)
-    | inr other ↦
-        let found = operator_among_is ops tokens o other.1 in
-        ((suc found.0.0, omega arith, found.0.2), found.1)
-  ]
+  | inl so ↦
+      let same = some_same so.1 in
+      ((zero, omega arith, same), subst (λ y. begins_sign (operator_text y) tokens ≡ true) same so.0)
+  | inr other ↦
+      let found = operator_among_is ops tokens o other.1 in
+      ((suc found.0.0, omega arith, found.0.2), found.1)
+]
 
 pub operator_is : (level : Level) (tokens : List Lexeme) (o : RawOp) → operator_at level tokens ≡ Some o
     → Contains (operators level) o × Begins (sign (operator_text o)) tokens (behind tokens)

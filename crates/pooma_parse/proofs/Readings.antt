@@ -1,5 +1,5 @@
 -- What the tokens of a line say of the form that it spells.
-use Rattle.std.proofs.Common.{◌≡◌, ◌≢◌, ℕ, ◌≤◌, ◌<◌, List, [], ◌∷◌, Option, Some, None, Err, refl, sym, ap, ◌∙◌, subst, length, map, get_or, zero, suc, lit≤, arith}
+use Rattle.std.proofs.Common.{◌≡◌, ◌≢◌, ℕ, ◌≤◌, ◌<◌, List, [], ◌∷◌, Some, None, Err, refl, sym, ap, ◌∙◌, subst, length, map, get_or, zero, suc, lit≤, arith}
 use Rattle.pooma_text.specs.declared.token.Token.{Token}
 use Rattle.pooma_text.specs.declared.token.TheConstants.{MOST_TOKENS}
 use Rattle.pooma_text.specs.Tokens.{HasTokens, IsBlankLine, IsLongest, Runs}

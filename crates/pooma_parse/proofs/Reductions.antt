@@ -1,22 +1,20 @@
 -- The right side of a reduction is no expression.
-use Rattle.std.proofs.Common.{◌≡◌, ◌⊎◌, ℕ, zero, suc, ◌<◌, ◌≤◌, Bool, true, false, not, ◌&&◌, if◌then◌else◌, List, [], ◌∷◌, ◌++◌, Option, Some, None, refl, sym, ap, ◌∙◌, subst, inl, inr, arith, codes, Contains, bytes_eq}
+use Rattle.std.proofs.Common.{◌≡◌, ℕ, zero, suc, true, false, not, if◌then◌else◌, List, [], ◌∷◌, ◌++◌, Option, Some, None, refl, sym, ap, ◌∙◌, subst, inl, inr, arith, codes, Contains, bytes_eq}
 use Rattle.std.specs.List.{list_any}
 use Rattle.pooma_text.specs.declared.span.Span.{Span}
-use Rattle.pooma_text.specs.declared.token.TokenKind.TheVariants.{Word, Number, Sign}
+use Rattle.pooma_text.specs.declared.token.TokenKind.TheVariants.{Word}
 use Rattle.pooma_parse.specs.declared.expression.Place.{Place}
-use Rattle.pooma_parse.specs.declared.expression.Place.TheVariants.{InBody, InLine}
+use Rattle.pooma_parse.specs.declared.expression.Place.TheVariants.{InLine}
 use Rattle.pooma_parse.specs.declared.form.RawExpr.{RawExpr}
-use Rattle.pooma_parse.specs.declared.form.RawExpr.TheVariants as tree
 use Rattle.pooma_parse.specs.declared.form.RawOp.{RawOp}
 use Rattle.pooma_parse.specs.declared.form.RawOp.TheVariants as op
-use Rattle.pooma_parse.specs.Expressions.{EXPR, UNARY, PRIMARY}
+use Rattle.pooma_parse.specs.Expressions.{EXPR}
 use Rattle.pooma_parse.specs.Forms.{RED, reductions}
-use Rattle.pooma_parse.specs.Languages.{Language, parens, sign, word, ◌⨾◌}
-use Rattle.pooma_parse.specs.Reader.{Reader, and_then, begins, begins_name, begins_named, begins_number, begins_reduction, begins_sign, begins_word, behind, expect, expect_sign, expect_word, expr_within, is_reserved, pure, read_both, read_compared, read_expr, read_nested, read_own, read_parens, read_primary, read_reduction_word, read_repeated, read_unary, same_kind, span_of, unary_within, ◌>>=◌, ◌>>◌}
+use Rattle.pooma_parse.specs.Languages.{parens}
+use Rattle.pooma_parse.specs.Reader.{Reader, and_then, begins, begins_name, begins_number, begins_reduction, begins_sign, begins_word, expect, expr_within, is_reserved, read_both, read_compared, read_expr, read_nested, read_own, read_primary, read_reduction_word, read_repeated, read_unary, same_kind, span_of, unary_within}
 use Rattle.pooma_parse.specs.Tokens.{Lexeme, sign_token, word_token}
-use Rattle.pooma_parse.proofs.Atoms.{and_parts, among_contains, both_true, begins_is, begins_of, contains_among, same_kind_is, sign_exact, span_at, span_read, token_begins, token_of, word_exact}
-use Rattle.pooma_parse.proofs.Commas.{NoSign, parens_exact}
-use Rattle.pooma_parse.proofs.Exact.{Any, Begins, Exact, and_then_some, cut, done, first_of_two, if_cases, if_false, if_true, some_same, step, then_begins}
+use Rattle.pooma_parse.proofs.Atoms.{and_parts, among_contains, begins_of, contains_among, same_kind_is, sign_exact, span_at, span_read, token_begins, token_of}
+use Rattle.pooma_parse.proofs.Exact.{Any, Begins, Exact, cut, if_cases, if_false, if_true, some_same, step}
 use Rattle.pooma_parse.proofs.Operands.{within_exact}
 use Rattle.pooma_parse.proofs.Operators.{Follows, before_comma, closes}
 use Rattle.pooma_parse.proofs.Trees.{Deep}
@@ -51,8 +49,8 @@ red_exact = record {
     | inr other ↦ absurd (cc (other.1))
   ];
   complete = λ tokens rest v b any.
-    let at = red_begins b in
-    subst (λ s. (if begins_reduction s then span_of s s else None) ≡ Some (v, rest)) (sym at.2)
+      let at = red_begins b in
+      subst (λ s. (if begins_reduction s then span_of s s else None) ≡ Some (v, rest)) (sym at.2)
       (if_true None (red_test at.0 v rest at.1) (span_read (word_token at.0 v) rest));
 }
 
@@ -85,9 +83,9 @@ one_not_two n o x mid rest b = is_none _ (λ v e.
     let at_comma = token_begins comma.spelled in
     let at_close = token_begins inside.other in
     let one = (within_exact InLine (suc n)).complete opened.mid left.mid left.value (deeper left.spelled)
-      (subst (Follows EXPR) (sym at_comma.1) (before_comma at_comma.0 comma.mid)) in
+    (subst (Follows EXPR) (sym at_comma.1) (before_comma at_comma.0 comma.mid)) in
     let two = (within_exact InLine (suc n)).complete (cut b).mid inside.mid x inside.one
-      (subst (Follows EXPR) (sym at_close.1) (closes at_close.0 rest)) in
+    (subst (Follows EXPR) (sym at_close.1) (closes at_close.0 rest)) in
     let ends : left.mid ≡ inside.mid = ap (λ p. p.1) (some_same (sym one ∙ sym (ap (expr_within InLine (suc n)) same_start) ∙ two)) in
     comma_no_close at_comma.0 at_close.0 comma.mid rest (sym at_comma.1 ∙ ends ∙ at_close.1))
 
@@ -135,5 +133,5 @@ reduction_no_expr n v x tokens mid rest red b =
     let at = red_begins red in
     let reserved = reduction_reserved at.0 at.1 in
     let unary : unary_within InLine (suc n) (word_token at.0 v ∷ mid) ≡ None =
-      if_false _ (ap not reserved) (no_nested n x at.0 v mid rest at.1 b) in
+    if_false _ (ap not reserved) (no_nested n x at.0 v mid rest at.1 b) in
     no_expr (unary_within InLine (suc n)) tokens (subst (λ s. unary_within InLine (suc n) s ≡ None) (sym at.2) unary)

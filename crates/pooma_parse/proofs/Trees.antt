@@ -1,17 +1,15 @@
 -- Expressions are read as the grammar says: operators that may be repeated, and comparisons.
-use Rattle.std.proofs.Common.{◌≡◌, ◌⊎◌, ℕ, zero, suc, max, ◌<◌, ◌≤◌, Bool, true, false, List, [], ◌∷◌, ◌++◌, Option, Some, None, refl, sym, ap, ◌∙◌, subst, inl, inr, arith, codes, length, length-append, Contains}
-use Rattle.pooma_text.specs.declared.token.TokenKind.TheVariants.{Word, Number, Sign}
+use Rattle.std.proofs.Common.{◌≡◌, ℕ, zero, suc, max, ◌≤◌, List, [], ◌++◌, Some, None, refl, sym, ap, ◌∙◌, subst, inl, inr, arith, length}
 use Rattle.pooma_parse.specs.declared.expression.Place.{Place}
 use Rattle.pooma_parse.specs.declared.form.RawExpr.{RawExpr}
 use Rattle.pooma_parse.specs.declared.form.RawExpr.TheVariants as tree
-use Rattle.pooma_parse.specs.declared.form.RawOp.{RawOp}
-use Rattle.pooma_parse.specs.Expressions.{Level, ADD, AND, COMPARE, EXPR, MUL, PRIMARY, UNARY, IsRepeated, add_of_muls, and_of_compares, expr_of_ands, mul_of_unaries, Behind, Says, alone, compared, repeated, no_more, one_more, nesting, nesting_behind, operator_text, operators}
-use Rattle.pooma_parse.specs.Languages.{Language, Then, just, nothing, parens, sign, ◌⨾◌}
-use Rattle.pooma_parse.specs.Reader.{Reader, and_then, begins_sign, behind, by_operator, operator_at, pure, read_compared, read_operands, read_repeated, ◌>>=◌}
-use Rattle.pooma_parse.specs.Tokens.{Lexeme, sign_token}
-use Rattle.pooma_parse.proofs.Atoms.{begins_of, token_begins}
+use Rattle.pooma_parse.specs.Expressions.{Level, ADD, COMPARE, IsRepeated, add_of_muls, and_of_compares, expr_of_ands, mul_of_unaries, Behind, Says, alone, compared, repeated, no_more, one_more, nesting, nesting_behind}
+use Rattle.pooma_parse.specs.Languages.{Language, just, ◌⨾◌}
+use Rattle.pooma_parse.specs.Reader.{Reader, behind, by_operator, operator_at, pure, read_compared, read_operands, read_repeated, ◌>>=◌}
+use Rattle.pooma_parse.specs.Tokens.{Lexeme}
+use Rattle.pooma_parse.proofs.Atoms.{token_begins}
 use Rattle.pooma_parse.proofs.Commas.{begins_shorter}
-use Rattle.pooma_parse.proofs.Exact.{Any, Begins, Cut, Exact, and_then_some, cut, done, nothing_begins, nothing_ends, some_same, step, then_begins}
+use Rattle.pooma_parse.proofs.Exact.{Begins, Exact, and_then_some, cut, done, nothing_ends, step, then_begins}
 use Rattle.pooma_parse.proofs.Operators.{Follows, by_cases, comparison_stands, follows_operand, no_operator, operator_is, operator_stands}
 
 -- an expression by a production in which no more than so many parentheses and minuses stand one in another
@@ -76,18 +74,18 @@ module _ {place : Place} {n : ℕ} {level operand : Level} (r : IsRepeated level
   operands_sound zero before tokens rest v e =
       done (DeepBehind place level operand n before) e (record { front = []; spelled = (no_more refl, omega arith); whole = refl })
   operands_sound (suc k) before tokens rest v e = elim (by_cases (operator_at level tokens) _ (pure before) tokens e) [
-      | inl none ↦ done (DeepBehind place level operand n before) none.1 (record { front = []; spelled = (no_more refl, omega arith); whole = refl })
-      | inr some ↦
-          let sign = operator_is level tokens some.0 some.1 in
-          let next = step exact some.2 in
-          let more = operands_sound k (tree.Bin some.0 before next.value) next.mid rest v next.more in
-          let whole = then_begins sign.1 (then_begins (as_just next.spelled) (as_just more)) in
-          record {
-            front = whole.front;
-            spelled = (one_more some.0 sign.0 next.spelled.spelled.0 more.spelled.0 whole.spelled, max_below (nesting next.spelled.spelled.0) (nesting_behind more.spelled.0) next.spelled.spelled.1 more.spelled.1);
-            whole = whole.whole;
-          }
-    ]
+    | inl none ↦ done (DeepBehind place level operand n before) none.1 (record { front = []; spelled = (no_more refl, omega arith); whole = refl })
+    | inr some ↦
+        let sign = operator_is level tokens some.0 some.1 in
+        let next = step exact some.2 in
+        let more = operands_sound k (tree.Bin some.0 before next.value) next.mid rest v next.more in
+        let whole = then_begins sign.1 (then_begins (as_just next.spelled) (as_just more)) in
+        record {
+          front = whole.front;
+          spelled = (one_more some.0 sign.0 next.spelled.spelled.0 more.spelled.0 whole.spelled, max_below (nesting next.spelled.spelled.0) (nesting_behind more.spelled.0) next.spelled.spelled.1 more.spelled.1);
+          whole = whole.whole;
+        }
+  ]
 
   operands_complete : (k : ℕ) {before v : RawExpr} {front : List Lexeme} (says : Behind place level operand before front v) (tokens rest : List Lexeme)
       → nesting_behind says ≤ n → Begins (just front) tokens rest → length tokens ≤ k → Follows level rest
@@ -112,7 +110,7 @@ module _ {place : Place} {n : ℕ} {level operand : Level} (r : IsRepeated level
       let fewer : length item.mid ≤ k = omega (arith, few, ap length at.1, begins_shorter item.one) in
       let further = operands_complete k more item.mid rest right item.other fewer f in
       ap (λ x. by_operator x (λ op. p >>= (λ next. read_operands level p k (tree.Bin op before next))) (pure before) tokens) some
-        ∙ and_then_some _ (ap p (ap behind at.1) ∙ read) further
+      ∙ and_then_some _ (ap p (ap behind at.1) ∙ read) further
 
   repeated_read : (tokens rest : List Lexeme) (v : RawExpr) → Begins (Deep place level n v) tokens rest → Follows level rest
       → read_repeated level p tokens ≡ Some (v, rest)
@@ -126,14 +124,14 @@ module _ {place : Place} {n : ℕ} {level operand : Level} (r : IsRepeated level
   unfolding read_repeated
   repeated_exact = record {
     sound = λ tokens rest v e.
-      let first = step exact e in
-      let more = operands_sound (length first.mid) first.value first.mid rest v first.more in
-      let whole = then_begins (as_just first.spelled) (as_just more) in
-      record {
-        front = whole.front;
-        spelled = (repeated r first.spelled.spelled.0 more.spelled.0 whole.spelled, max_below (nesting first.spelled.spelled.0) (nesting_behind more.spelled.0) first.spelled.spelled.1 more.spelled.1);
-        whole = whole.whole;
-      };
+        let first = step exact e in
+        let more = operands_sound (length first.mid) first.value first.mid rest v first.more in
+        let whole = then_begins (as_just first.spelled) (as_just more) in
+        record {
+          front = whole.front;
+          spelled = (repeated r first.spelled.spelled.0 more.spelled.0 whole.spelled, max_below (nesting first.spelled.spelled.0) (nesting_behind more.spelled.0) first.spelled.spelled.1 more.spelled.1);
+          whole = whole.whole;
+        };
     complete = λ tokens rest v b f. repeated_read tokens rest v b f;
   }
 
@@ -146,7 +144,7 @@ module _ {place : Place} {n : ℕ} {p : Reader RawExpr} (exact : Exact (Follows 
   compared_read (repeated none first more t) tokens rest deep b f = elim none [ ]
   compared_read {v} (alone only) tokens rest deep b f =
       and_then_some _ (exact.complete tokens rest v (from_just b (only, deep)) f.1)
-        (ap (λ o. by_operator o (λ op. p >>= (λ right. pure (tree.Bin op v right))) (pure v) rest) f.0)
+      (ap (λ o. by_operator o (λ op. p >>= (λ right. pure (tree.Bin op v right))) (pure v) rest) f.0)
   compared_read (compared {left = x} {right = y} o left c right t) tokens rest deep b f =
       let parts = cut (from_just b t) in
       let sign = cut parts.other in
@@ -158,25 +156,25 @@ module _ {place : Place} {n : ℕ} {p : Reader RawExpr} (exact : Exact (Follows 
       let some : operator_at COMPARE parts.mid ≡ Some o = ap (operator_at COMPARE) at.1 ∙ stands.0 in
       let second = exact.complete sign.mid rest y (from_just sign.other (right, shallow_right)) f.1 in
       and_then_some _ first
-        (ap (λ z. by_operator z (λ op. p >>= (λ right. pure (tree.Bin op x right))) (pure x) parts.mid) some
-        ∙ and_then_some _ (ap p (ap behind at.1) ∙ second) refl)
+      (ap (λ z. by_operator z (λ op. p >>= (λ right. pure (tree.Bin op x right))) (pure x) parts.mid) some
+      ∙ and_then_some _ (ap p (ap behind at.1) ∙ second) refl)
 
   pub compared_exact : Exact (Follows COMPARE) (Deep place COMPARE n) (read_compared p)
   unfolding read_compared
   compared_exact = record {
     sound = λ tokens rest v e.
-      let left = step exact e in
-      elim (by_cases (operator_at COMPARE left.mid) _ (pure left.value) left.mid left.more) [
-        | inl none ↦ done (Deep place COMPARE n) none.1 (record { front = left.spelled.front; spelled = (alone left.spelled.spelled.0, left.spelled.spelled.1); whole = left.spelled.whole })
-        | inr some ↦
-            let sign = operator_is COMPARE left.mid some.0 some.1 in
-            let right = step exact some.2 in
-            let whole = then_begins (as_just left.spelled) (then_begins sign.1 (as_just right.spelled)) in
-            done (Deep place COMPARE n) right.more (record {
-              front = whole.front;
-              spelled = (compared some.0 left.spelled.spelled.0 sign.0 right.spelled.spelled.0 whole.spelled, max_below (nesting left.spelled.spelled.0) (nesting right.spelled.spelled.0) left.spelled.spelled.1 right.spelled.spelled.1);
-              whole = whole.whole;
-            })
-      ];
+        let left = step exact e in
+        elim (by_cases (operator_at COMPARE left.mid) _ (pure left.value) left.mid left.more) [
+          | inl none ↦ done (Deep place COMPARE n) none.1 (record { front = left.spelled.front; spelled = (alone left.spelled.spelled.0, left.spelled.spelled.1); whole = left.spelled.whole })
+          | inr some ↦
+              let sign = operator_is COMPARE left.mid some.0 some.1 in
+              let right = step exact some.2 in
+              let whole = then_begins (as_just left.spelled) (then_begins sign.1 (as_just right.spelled)) in
+              done (Deep place COMPARE n) right.more (record {
+                front = whole.front;
+                spelled = (compared some.0 left.spelled.spelled.0 sign.0 right.spelled.spelled.0 whole.spelled, max_below (nesting left.spelled.spelled.0) (nesting right.spelled.spelled.0) left.spelled.spelled.1 right.spelled.spelled.1);
+                whole = whole.whole;
+              })
+        ];
     complete = λ tokens rest v b f. compared_read b.spelled.0 tokens rest b.spelled.1 (as_just b) f;
   }

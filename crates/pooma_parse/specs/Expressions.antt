@@ -1,5 +1,5 @@
 -- The expressions of a line and of a stencil's body, one constructor for a case of a production.
-use Rattle.std.specs.Prelude.{◌≡◌, ℕ, zero, suc, max, ℤ, List, [], ◌∷◌, codes, Contains}
+use Rattle.std.specs.Prelude.{◌≡◌, ℕ, suc, max, ℤ, List, [], ◌∷◌, codes, Contains}
 use Rattle.pooma_text.specs.declared.span.Span.{Span}
 use Rattle.pooma_parse.specs.declared.expression.Place.{Place}
 use Rattle.pooma_parse.specs.declared.expression.Place.TheVariants.{InBody, InLine}
@@ -8,7 +8,7 @@ use Rattle.pooma_parse.specs.declared.form.RawExpr.TheVariants as tree
 use Rattle.pooma_parse.specs.declared.form.RawOp.{RawOp}
 use Rattle.pooma_parse.specs.declared.form.RawOp.TheVariants as op
 use Rattle.pooma_parse.specs.declared.form.RawView.{RawView}
-use Rattle.pooma_parse.specs.Languages.{Language, INT, NUM, SMALL, just, listed, name, nothing, parens, sign, word, ◌⨾◌}
+use Rattle.pooma_parse.specs.Languages.{INT, NUM, SMALL, just, listed, name, nothing, parens, sign, word, ◌⨾◌}
 use Rattle.pooma_parse.specs.Lists.{VIEW}
 use Rattle.pooma_parse.specs.Tokens.{Lexeme}
 

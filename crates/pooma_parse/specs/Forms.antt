@@ -9,9 +9,9 @@ use Rattle.pooma_parse.specs.declared.form.RawLine.TheVariants as line
 use Rattle.pooma_parse.specs.declared.form.RawSub.{RawSub}
 use Rattle.pooma_parse.specs.declared.form.RawView.{RawView}
 use Rattle.pooma_parse.specs.Expressions.{EXPR, Says, nesting}
-use Rattle.pooma_parse.specs.Languages.{Language, SMALL, listed, name, nothing, parens, sign, word, ◌⨾◌}
+use Rattle.pooma_parse.specs.Languages.{Language, SMALL, listed, name, parens, sign, word, ◌⨾◌}
 use Rattle.pooma_parse.specs.Lists.{BOX, CUTTING, GUARDS, SMALLS, UPDATER, VIEW, assign_text}
-use Rattle.pooma_parse.specs.Tokens.{Lexeme, word_token}
+use Rattle.pooma_parse.specs.Tokens.{word_token}
 
 -- so many parentheses of PRIMARY and minuses of UNARY may stand round a token
 abbrev pub MOST_NESTING : ℕ

@@ -5,4 +5,5 @@ pub mod Lines
 pub mod Lists
 pub mod Names
 pub mod Reader
+pub mod Spans
 pub mod Tokens

@@ -1,5 +1,5 @@
 -- What a line spells.
-use Rattle.std.specs.Prelude.{◌≡◌, ℕ, ◌≤◌, List, length, map}
+use Rattle.std.specs.Prelude.{ℕ, ◌≤◌, List, length, map}
 use Rattle.pooma_text.specs.declared.token.Token.{Token}
 use Rattle.pooma_text.specs.declared.token.TheConstants.{MOST_TOKENS}
 use Rattle.pooma_text.specs.Tokens.{HasTokens}

@@ -9,7 +9,7 @@ use Rattle.pooma_parse.specs.declared.form.RawSub.TheVariants.{At, Range}
 use Rattle.pooma_parse.specs.declared.form.RawView.{RawView}
 use Rattle.pooma_parse.specs.declared.form.Updater4.{Updater4}
 use Rattle.pooma_parse.specs.declared.form.Updater4.TheVariants.{Constant, Periodic, Reflect, Antireflect, Extrapolate}
-use Rattle.pooma_parse.specs.Languages.{Language, INT, MOST_NUM, NUM, SMALL, followed, listed, name, nothing, parens, sign, signed, word, ◌⨾◌}
+use Rattle.pooma_parse.specs.Languages.{Language, INT, MOST_NUM, SMALL, listed, name, nothing, parens, sign, signed, word, ◌⨾◌}
 
 -- INT `:` INT
 abbrev pub RANGE : ℤ × ℤ → Language

@@ -1,6 +1,6 @@
 -- How the tokens are read, one function a production. The functions of this crate are proved against these, and these
 -- are proved to read the languages of `Languages`, `Lists`, `Expressions` and `Forms` and nothing else.
-use Rattle.std.specs.Prelude.{◌≡◌, ℕ, zero, suc, ◌≤◌, nat_le, ℤ, pos, ◌-ℤ◌, Bool, true, false, not, ◌&&◌, ◌||◌, if◌then◌else◌, List, [], ◌∷◌, ◌++◌, length, bytes_eq, Option, Some, None, Result, Ok, Err, codes}
+use Rattle.std.specs.Prelude.{◌≡◌, ℕ, zero, suc, nat_le, ℤ, pos, ◌-ℤ◌, Bool, true, false, not, ◌&&◌, if◌then◌else◌, List, [], ◌∷◌, ◌++◌, length, bytes_eq, Option, Some, None, Result, Ok, Err, codes}
 use Rattle.std.specs.List.{list_any}
 use Rattle.pooma_text.specs.declared.span.Span.{Span}
 use Rattle.pooma_text.specs.declared.token.TokenKind.{TokenKind}

@@ -78,8 +78,7 @@ impl<'a> Cursor<'a> {
         match self.tokens {
             [] => false,
             [first, ..] => {
-                same_kind(first.kind, kind)
-                    && &self.line[first.span.start..first.span.end] == text
+                same_kind(first.kind, kind) && &self.line[first.span.start..first.span.end] == text
             }
         }
     }

@@ -23,7 +23,10 @@ pub enum RawLine {
         domain: RawList<(i32, i32)>,
     },
     /// An array over a layout.
-    Array { name: Span, layout: Span },
+    Array {
+        name: Span,
+        layout: Span,
+    },
     /// An array over a layout whose external guards follow from its cells, with an updater for each face.
     Field {
         name: Span,
@@ -44,7 +47,10 @@ pub enum RawLine {
         value: RawExpr,
     },
     /// A number of its own from an expression without axes.
-    Scalar { name: Span, value: RawExpr },
+    Scalar {
+        name: Span,
+        value: RawExpr,
+    },
     /// A number of its own from all values of an expression. The word is that of the reduction.
     Reduce {
         name: Span,
@@ -52,13 +58,19 @@ pub enum RawLine {
         value: RawExpr,
     },
     /// The print of a view with brackets.
-    PrintView { view: RawView },
+    PrintView {
+        view: RawView,
+    },
     /// The print of a bare name, which may be an array's or a scalar's.
-    PrintName { name: Span },
+    PrintName {
+        name: Span,
+    },
     /// All pending work is done here.
     Block,
     /// The lines up to its end are done so often.
-    Repeat { turns: i32 },
+    Repeat {
+        turns: i32,
+    },
     /// The end of a repeat.
     End,
 }

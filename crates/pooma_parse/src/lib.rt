@@ -8,7 +8,6 @@ mod error;
 mod expression;
 mod form;
 mod law;
-
 mod line;
 mod lists;
 mod names;

@@ -105,10 +105,7 @@ fn cut_list(alloc: Global, cursor: &mut Cursor<'_>) -> Result<RawList<i32>, Line
 
 /// CUTLIST { `,` CUTLIST }
 #[tactic(auto, using(crate::proofs::Turns::entry_read), unfolding(crate::specs::Reader::read_listed, crate::specs::Reader::read_entries))]
-fn cut_lists(
-    alloc: Global,
-    cursor: &mut Cursor<'_>,
-) -> Result<RawList<RawList<i32>>, LineError>
+fn cut_lists(alloc: Global, cursor: &mut Cursor<'_>) -> Result<RawList<RawList<i32>>, LineError>
     ensures { Reads (reader.read_listed reader.read_cut_list) cursor.old result cursor.new }
 {
     let mut found = RawList::new(alloc);
@@ -185,10 +182,7 @@ fn updater(cursor: &mut Cursor<'_>) -> Result<Updater4, LineError>
 
 /// UPDATER { `,` UPDATER }
 #[tactic(auto, using(crate::proofs::Turns::entry_read), unfolding(crate::specs::Reader::read_listed, crate::specs::Reader::read_entries))]
-pub fn updater_list(
-    alloc: Global,
-    cursor: &mut Cursor<'_>,
-) -> Result<RawList<Updater4>, LineError>
+pub fn updater_list(alloc: Global, cursor: &mut Cursor<'_>) -> Result<RawList<Updater4>, LineError>
     ensures { Reads (reader.read_listed reader.read_updater) cursor.old result cursor.new }
 {
     let mut found = RawList::new(alloc);

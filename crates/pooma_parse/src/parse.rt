@@ -1,7 +1,9 @@
-ghost use Rattle.std.specs.Prelude.{◌≡◌, IfOk, IfSome, IfNone, IsErrOf, MatchResult, Option, Some, None};
+ghost use Rattle.std.specs.Prelude.{◌≡◌, All, IfOk, IfSome, IfNone, IsErrOf, MatchResult, Option, Some, None};
+ghost use Rattle.pooma_text.specs.Lines.{IsPart};
 ghost use Rattle.pooma_text.specs.Tokens.{IsBlankLine};
 ghost use Rattle.pooma_parse.specs.declared.form.RawLine.{RawLine};
 ghost use Rattle.pooma_parse.specs.Lines.{Spells};
+ghost use Rattle.pooma_parse.specs.Spans.{names_of};
 
 use crate::cursor::Cursor;
 use crate::error::LineError;
@@ -18,6 +20,7 @@ use std::alloc::Global;
 /// an `end`, is not looked at. The names are parts of the line.
 pub fn parse_line(alloc: Global, line: &[u8]) -> Result<Option<RawLine>, LineError>
     ensures form { IfOk result (λ answer. IfSome answer (λ form. Spells line.now form)) }
+    ensures names { IfOk result (λ answer. IfSome answer (λ form. All (IsPart line.now) (names_of form))) }
     ensures blank { IfOk result (λ answer. IfNone answer (IsBlankLine line.now)) }
     ensures not_blank { IsErrOf result LineError.Syntax → IsBlankLine line.now → ⊥ }
     ensures no_form { IsErrOf result LineError.Syntax → (form : RawLine) → Spells line.now form → ⊥ }

@@ -8,8 +8,12 @@ mod ends;
 #[cfg(test)]
 mod io;
 #[cfg(test)]
+mod parse;
+#[cfg(test)]
 mod refusals;
 #[cfg(test)]
 mod run;
+#[cfg(test)]
+mod shown;
 #[cfg(test)]
 mod text;

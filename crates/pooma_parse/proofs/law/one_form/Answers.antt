@@ -1,4 +1,4 @@
-use Rattle.std.proofs.Common.{[], map, subst, sym}
+use Rattle.std.proofs.Common.{[], map, subst}
 use Rattle.pooma_parse.specs.Forms.{LINE}
 use Rattle.pooma_parse.specs.Tokens.{lexeme_of}
 use Rattle.pooma_parse.proofs.Readings.{blank_spells_none, says_one}

@@ -3,6 +3,7 @@ use Rattle.std.proofs.lemmas.Grind.{common_steps}
 use Rattle.pooma_parse.specs.Reader.{read_line}
 use Rattle.pooma_parse.specs.Tokens.{lexeme_of}
 use Rattle.pooma_parse.proofs.Exact.{some_same}
+use Rattle.pooma_parse.proofs.Places.{names_are_parts}
 use Rattle.pooma_parse.proofs.Readings.{blank_spells_none, no_tokens, not_blank, not_read, read_spelled, refused, refused_only, runs_longest, spells_read}
 use Rattle.pooma_parse.proofs.parse.parse_line.Goals as goal
 
@@ -25,6 +26,11 @@ pub returns-in-Ok-form-clause-form : goal.returns-in-Ok-form-clause-form
 returns-in-Ok-form-clause-form c =
     let same = c.new.ensures ∙ ap (map (lexeme_of c.args.line.now)) c.deref.ensures.value in
     spells_read _ _ _ _ c.in-Ok.ensures.found c.in-Ok.ensures.few same c.in-Ok-form.ensures
+
+pub returns-in-Ok-form-clause-names : goal.returns-in-Ok-form-clause-names
+returns-in-Ok-form-clause-names c =
+    let same = c.new.ensures ∙ ap (map (lexeme_of c.args.line.now)) c.deref.ensures.value in
+    names_are_parts _ _ (spells_read _ _ _ _ c.in-Ok.ensures.found c.in-Ok.ensures.few same c.in-Ok-form.ensures)
 
 pub returns-in-Ok-form-clause-only_form : goal.returns-in-Ok-form-clause-only_form
 returns-in-Ok-form-clause-only_form c = λ form s.
