@@ -4,7 +4,7 @@ ghost use Rattle.pooma_machine.specs.Lines.{line, room_at, asked_at, line_after,
 
 use crate::step::Request;
 use pooma_queue::Queue;
-use std::alloc::AllocError;
+use std::alloc::{AllocError, Global};
 
 // What holds an entry back: an earlier entry, and the object over which the two conflict.
 #[derive(Clone, Copy)]
@@ -14,7 +14,7 @@ pub(crate) struct Holder {
 }
 
 /// Makes room for one further request in the queue of each object that is asked for.
-pub(crate) fn make_room(queues: &mut [Queue], requests: &[Request]) -> Result<(), AllocError>
+pub(crate) fn make_room(alloc: Global, queues: &mut [Queue], requests: &[Request]) -> Result<(), AllocError>
     requires { All (λ r. r.object < length queues.old) requests.now }
     ensures lines { (o : ℕ) → line queues.new o ≡ line queues.old o }
     ensures rooms { (o : ℕ) → room_at queues.old o ≤ room_at queues.new o }
@@ -23,26 +23,26 @@ pub(crate) fn make_room(queues: &mut [Queue], requests: &[Request]) -> Result<()
     ensures count { length queues.new ≡ length queues.old }
 {
     for request in requests {
-        queues[request.object as usize].reserve(1)?;
+        queues[request.object as usize].reserve(alloc, 1)?;
     }
     Ok(())
 }
 
 /// Makes room for so many further requests in each queue.
-pub(crate) fn reserve_all(queues: &mut [Queue], n: usize) -> Result<(), AllocError>
+pub(crate) fn reserve_all(alloc: Global, queues: &mut [Queue], n: usize) -> Result<(), AllocError>
     ensures lines { (o : ℕ) → line queues.new o ≡ line queues.old o }
     ensures rooms { (o : ℕ) → room_at queues.old o ≤ room_at queues.new o }
     ensures ok { OnOk result ((o : ℕ) → o < length queues.new → n ≤ room_at queues.new o) }
     ensures count { length queues.new ≡ length queues.old }
 {
     for i in 0..queues.len() {
-        queues[i].reserve(n)?;
+        queues[i].reserve(alloc, n)?;
     }
     Ok(())
 }
 
 /// Puts an entry's requests behind those of the earlier entries.
-pub(crate) fn enter(queues: &mut [Queue], entry: u32, requests: &[Request])
+pub(crate) fn enter(alloc: Global, queues: &mut [Queue], entry: u32, requests: &[Request])
     requires objects { All (λ r. r.object < length queues.old) requests.now }
     requires form { IsRequestList requests.now }
     requires later { (o : ℕ) → All (λ asked. asked.entry < entry) (line queues.old o) }
@@ -52,7 +52,7 @@ pub(crate) fn enter(queues: &mut [Queue], entry: u32, requests: &[Request])
     ensures count { length queues.new ≡ length queues.old }
 {
     for request in requests {
-        let _ = queues[request.object as usize].push(entry, request.mode);
+        let _ = queues[request.object as usize].push(alloc, entry, request.mode);
     }
 }
 

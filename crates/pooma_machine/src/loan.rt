@@ -1,13 +1,17 @@
-ghost use Rattle.std.specs.Prelude.{◌≡◌, map, IsTrue, None, Some};
+ghost use Rattle.std.specs.Prelude.{◌≡◌, IsTrue, IfSome, None, Some, option_map};
 ghost use Rattle.std.specs.Arc.{arc_value};
+ghost use Rattle.pooma_machine.specs.Values.{FitsLent, new_value_of, outcome_of};
+ghost use Rattle.pooma_machine.specs.Slots.{contents_of};
 
 use crate::work::Work;
 use std::marker::Model;
 use std::snapshot::Snapshot;
 use std::sync::Arc;
 
-/// What a dispatch lends to an entry: its work, the value of the object that it writes, which it owns, and the values that
-/// it reads, which it shares. The work fits them.
+/// What a dispatch lends to an entry: its work, the value of the object that it writes, which it owns and which is ready to
+/// be written, and the values that it reads, which it shares. The work fits them.
+///
+/// Contracts see the entry, the work and the contents of the values.
 #[derive(Drop)]
 pub struct Loan<W: Work> {
     entry: u32,
@@ -17,19 +21,20 @@ pub struct Loan<W: Work> {
 }
 
 impl<W: Work> Model for Loan<W> {
-    ghost use Rattle.std.specs.Prelude.{map, IsTrue, option_map};
+    ghost use Rattle.std.specs.Prelude.{IsTrue, IfSome};
     ghost use Rattle.std.specs.Arc.{arc_value};
-    ghost use Rattle.pooma_machine.specs.Values.{Loaned};
+    ghost use Rattle.pooma_machine.specs.Values.{Loaned, FitsLent};
+    ghost use Rattle.pooma_machine.specs.Slots.{contents_of};
 
-    ghost Value = { Loaned W W.Value };
+    ghost Value = { Loaned W W.Content };
 
-    ghost view = { λ l. record { entry = l.entry; work = arc_value l.work; lent = record { written = l.written; reads = map arc_value l.reads.items } } };
+    ghost view = { λ l. record { entry = l.entry; work = arc_value l.work; lent = contents_of W.content l.written l.reads.items } };
 
-    ghost invariant = { λ l. IsTrue (W.meaning.fits (arc_value l.work) (option_map W.meaning.shape l.written) (map W.meaning.shape (map arc_value l.reads.items))) };
+    ghost invariant = { λ l. FitsLent W.meaning (arc_value l.work) (contents_of W.content l.written l.reads.items) × IfSome l.written (λ value. IsTrue (W.ready value)) };
 }
 
-/// What comes back for a loan: the entry, its work and the values lent to it, with the new value of the object that it
-/// writes and the outcome, which are those that the work's meaning gives on the lent values.
+/// What comes back for a loan: the entry, its work and what was lent to it, with the new value of the object that it writes
+/// and the outcome, which are those that the work's meaning gives on what was lent.
 #[derive(Drop)]
 pub struct Done<W: Work> {
     entry: u32,
@@ -41,20 +46,19 @@ pub struct Done<W: Work> {
 }
 
 impl<W: Work> Model for Done<W> {
-    ghost use Rattle.std.specs.Prelude.{◌≡◌, map, option_map};
+    ghost use Rattle.std.specs.Prelude.{◌≡◌, option_map};
     ghost use Rattle.std.specs.Arc.{arc_value};
-    ghost use Rattle.pooma_machine.specs.Values.{Loaned};
+    ghost use Rattle.pooma_machine.specs.Values.{Loaned, new_value_of, outcome_of};
+    ghost use Rattle.pooma_machine.specs.Slots.{contents_of};
 
-    ghost Value = { Loaned W W.Value };
+    ghost Value = { Loaned W W.Content };
 
-    ghost view = { λ d. record { entry = d.entry; work = arc_value d.work; lent = record { written = d.lent.value; reads = map arc_value d.reads.items } } };
+    ghost view = { λ d. record { entry = d.entry; work = arc_value d.work; lent = contents_of W.content d.lent.value d.reads.items } };
 
-    ghost invariant = { λ d. (d.written ≡ option_map (λ old. W.meaning.new_value (arc_value d.work) old (map arc_value d.reads.items)) d.lent.value) × (d.outcome ≡ W.meaning.outcome (arc_value d.work) d.lent.value (map arc_value d.reads.items)) × (option_map W.meaning.shape d.written ≡ option_map W.meaning.shape d.lent.value) };
+    ghost invariant = { λ d. (option_map W.content d.written ≡ new_value_of W.meaning (arc_value d.work) (contents_of W.content d.lent.value d.reads.items)) × (d.outcome ≡ outcome_of W.meaning (arc_value d.work) (contents_of W.content d.lent.value d.reads.items)) × (option_map W.meaning.shape (option_map W.content d.written) ≡ option_map W.meaning.shape (option_map W.content d.lent.value)) };
 }
 
 impl<W: Work> Loan<W> {
-    ghost use Rattle.std.specs.Prelude.{option_map};
-
     /// What is lent to an entry.
     pub(crate) fn new(
         entry: u32,
@@ -62,8 +66,9 @@ impl<W: Work> Loan<W> {
         written: Option<W::Value>,
         reads: Vec<Arc<W::Value>>,
     ) -> Loan<W>
-        requires { IsTrue (W.meaning.fits (arc_value work) (option_map W.meaning.shape written) (map W.meaning.shape (map arc_value reads.items))) }
-        ensures { result ≡ record { entry = entry; work = arc_value work; lent = record { written = written; reads = map arc_value reads.items } } }
+        requires fits { FitsLent W.meaning (arc_value work) (contents_of W.content written reads.items) }
+        requires ready { IfSome written (λ value. IsTrue (W.ready value)) }
+        ensures { result ≡ record { entry = entry; work = arc_value work; lent = contents_of W.content written reads.items } }
     {
         Loan {
             entry,
@@ -122,8 +127,8 @@ impl<W: Work> Loan<W> {
 
 // The outcome of a work that writes nothing.
 fn read_with<'a, W: Work>(work: &'a W, reads: &'a [Arc<W::Value>]) -> W::Outcome
-    requires { IsTrue (W.meaning.fits work.now None (map W.meaning.shape (map arc_value reads.now))) }
-    ensures { result ≡ W.meaning.outcome work.now None (map arc_value reads.now) }
+    requires { FitsLent W.meaning work.now (contents_of W.content None reads.now) }
+    ensures { result ≡ outcome_of W.meaning work.now (contents_of W.content None reads.now) }
 {
     let nothing: Option<&'a mut W::Value> = None;
     work.perform(nothing, reads)
@@ -131,10 +136,11 @@ fn read_with<'a, W: Work>(work: &'a W, reads: &'a [Arc<W::Value>]) -> W::Outcome
 
 // The new value and the outcome of a work that writes.
 fn write_with<W: Work>(work: &W, value: W::Value, reads: &[Arc<W::Value>]) -> (W::Value, W::Outcome)
-    requires { IsTrue (W.meaning.fits work.now (Some (W.meaning.shape value)) (map W.meaning.shape (map arc_value reads.now))) }
-    ensures value { result.0 ≡ W.meaning.new_value work.now value (map arc_value reads.now) }
-    ensures outcome { result.1 ≡ W.meaning.outcome work.now (Some value) (map arc_value reads.now) }
-    ensures shape { W.meaning.shape result.0 ≡ W.meaning.shape value }
+    requires fits { FitsLent W.meaning work.now (contents_of W.content (Some value) reads.now) }
+    requires ready { IsTrue (W.ready value) }
+    ensures value { Some (W.content result.0) ≡ new_value_of W.meaning work.now (contents_of W.content (Some value) reads.now) }
+    ensures outcome { result.1 ≡ outcome_of W.meaning work.now (contents_of W.content (Some value) reads.now) }
+    ensures shape { W.meaning.shape (W.content result.0) ≡ W.meaning.shape (W.content value) }
 {
     let mut value = value;
     let outcome = work.perform(Some(&mut value), reads);
@@ -142,9 +148,6 @@ fn write_with<W: Work>(work: &W, value: W::Value, reads: &[Arc<W::Value>]) -> (W
 }
 
 impl<W: Work> Done<W> {
-    ghost use Rattle.std.specs.Prelude.{option_map};
-    ghost use Rattle.pooma_machine.specs.Values.{new_value_of};
-
     /// The entry whose work was done.
     pub fn entry(&self) -> u32
         ensures { result ≡ self.now.entry }
@@ -155,9 +158,9 @@ impl<W: Work> Done<W> {
     /// What the machine keeps of it: the work, the new value of the object that it writes, and the outcome.
     pub(crate) fn kept(self) -> (Arc<W>, Option<W::Value>, W::Outcome)
         ensures work { arc_value result.0 ≡ self.work }
-        ensures value { result.1 ≡ new_value_of W.meaning self.work self.lent }
-        ensures shape { option_map W.meaning.shape result.1 ≡ option_map W.meaning.shape self.lent.written }
-        ensures outcome { result.2 ≡ W.meaning.outcome self.work self.lent.written self.lent.reads }
+        ensures value { option_map W.content result.1 ≡ new_value_of W.meaning self.work self.lent }
+        ensures shape { option_map W.meaning.shape (option_map W.content result.1) ≡ option_map W.meaning.shape self.lent.written }
+        ensures outcome { result.2 ≡ outcome_of W.meaning self.work self.lent }
     {
         let Done {
             entry: _,

@@ -4,7 +4,7 @@ ghost use Rattle.std.specs.Prelude.{◌≡◌, ◌↔◌, ◌+◌, ◌-◌, ◌^
 ghost use Rattle.std.specs.Arc.{arc_value};
 ghost use Rattle.pooma_machine.specs.Steps.{NoneOut, IsLeastUnreleased, IsLeastReady, IsReady, IsHeldBack, IsDispatchedAt, IsLegal, is_out, is_released, status_of, event_of};
 ghost use Rattle.pooma_machine.specs.Values.{asks_of, values, read_objects, written_object, is_write, IsComplete};
-ghost use Rattle.pooma_machine.specs.Slots.{value_at, value_in, PutBack};
+ghost use Rattle.pooma_machine.specs.Slots.{contents, content_at, content_in, PutBack};
 ghost use Rattle.pooma_machine.specs.Became.{TellsReady};
 
 use crate::became::Became;
@@ -21,8 +21,8 @@ use std::sync::Arc;
 
 /// Entries over numbered objects: each is requested, dispatched once nothing earlier conflicts with it, and released.
 ///
-/// Contracts see a machine as the works of its entries, the objects' values before the first event, the history, and the
-/// number of further entries for which there surely is room. The objects' present values and the outcomes are the
+/// Contracts see a machine as the works of its entries, the objects' contents before the first event, the history, and the
+/// number of further entries for which there surely is room. The objects' present contents and the outcomes are the
 /// `values` that these give.
 #[derive(Drop)]
 pub struct Machine<W: Work> {
@@ -33,16 +33,16 @@ pub struct Machine<W: Work> {
 }
 
 impl<W: Work> Model for Machine<W> {
-    ghost use Rattle.std.specs.Prelude.{◌≡◌, ◌+◌, ◌≤◌, map, length, vec_capacity};
-    ghost use Rattle.std.specs.Arc.{arc_value};
+    ghost use Rattle.std.specs.Prelude.{◌≡◌, ◌+◌, ◌≤◌, length, vec_capacity};
     ghost use Rattle.pooma_machine.specs.Values.{Account};
+    ghost use Rattle.pooma_machine.specs.Slots.{contents};
     ghost use Rattle.pooma_machine.specs.Machine.{Matches};
 
-    ghost Value = { Account W W.Value };
+    ghost Value = { Account W W.Content };
 
-    ghost view = { λ m. record { plan = m.table.plan; opening = map arc_value m.opening.value.items; history = m.table.history; spare = m.table.spare } };
+    ghost view = { λ m. record { plan = m.table.plan; opening = contents W.content m.opening.value.items; history = m.table.history; spare = m.table.spare } };
 
-    ghost invariant = { λ m. Matches W.meaning m.table.plan (map arc_value m.opening.value.items) m.table.history m.slots.items m.outcomes.items × (m.table.objects ≡ length m.slots.items) × (length m.table.plan + m.table.spare ≤ vec_capacity m.outcomes) };
+    ghost invariant = { λ m. Matches W.meaning W.content m.table.plan (contents W.content m.opening.value.items) m.table.history m.slots.items m.outcomes.items × (m.table.objects ≡ length m.slots.items) × (length m.table.plan + m.table.spare ≤ vec_capacity m.outcomes) };
 }
 
 /// Why an entry was not dispatched.
@@ -70,11 +70,13 @@ impl<W: Work> Machine<W> {
     ghost use Rattle.pooma_machine.specs.Machine.{FitsShapes};
     ghost use Rattle.pooma_machine.specs.Causes.{Explains};
 
-    /// A machine of no entries, with objects of these values. Only want of memory refuses it, and hands them back.
+    /// A machine of no entries and no spare room, with objects of these values. Only want of memory refuses it, and hands
+    /// them back.
     pub fn new(alloc: Global, objects: Vec<Arc<W::Value>>) -> Result<Machine<W>, Vec<Arc<W::Value>>>
         ensures plan { IfOk result (λ machine. machine.plan ≡ []) }
-        ensures opening { IfOk result (λ machine. machine.opening ≡ map arc_value objects.items) }
+        ensures opening { IfOk result (λ machine. machine.opening ≡ contents W.content objects.items) }
         ensures history { IfOk result (λ machine. machine.history ≡ []) }
+        ensures spare { IfOk result (λ machine. machine.spare ≡ 0) }
         ensures given_back { IfErr result (λ given. given.items ≡ objects.items) }
     {
         let opening = Snapshot::of(&objects);
@@ -97,7 +99,7 @@ impl<W: Work> Machine<W> {
     /// The objects by number, once every entry was released. After want of memory the machine and its values are given up.
     pub fn finish(self, alloc: Global) -> Result<Vec<Arc<W::Value>>, AllocError>
         requires { IsComplete self.plan self.history }
-        ensures { IfOk result (λ objects. map arc_value objects.items ≡ (values W.meaning self.plan self.opening self.history).objects) }
+        ensures { IfOk result (λ objects. contents W.content objects.items ≡ (values W.meaning self.plan self.opening self.history).objects) }
     {
         let Machine {
             table,
@@ -108,12 +110,12 @@ impl<W: Work> Machine<W> {
         drop(table);
         drop(outcomes);
         drop(opening);
-        brought_home(alloc, slots)
+        brought_home::<W>(alloc, slots)
     }
 
     /// Makes spare room for at least so many further entries. It takes room for a request of each in the queue of each
     /// object, so it is meant for few objects. Nothing else changes, also where memory is short.
-    pub fn reserve(&mut self, entries: u32) -> Result<(), AllocError>
+    pub fn reserve(&mut self, alloc: Global, entries: u32) -> Result<(), AllocError>
         ensures ok { OnOk result (entries ≤ self.new.spare) }
         ensures spare { self.old.spare ≤ self.new.spare }
         ensures plan { self.new.plan ≡ self.old.plan }
@@ -121,12 +123,12 @@ impl<W: Work> Machine<W> {
         ensures history { self.new.history ≡ self.old.history }
     {
         self.outcomes.reserve(entries as usize)?;
-        self.table.reserve(entries)
+        self.table.reserve(alloc, entries)
     }
 
     /// Issues the next entry, and answers its number. The machine and the entry's loan share the work. Only want of memory
     /// refuses it, never while there is spare room; then the machine is as before, and the work is handed back.
-    pub fn request(&mut self, seat: u32, work: Arc<W>) -> Result<u32, Arc<W>>
+    pub fn request(&mut self, alloc: Global, seat: u32, work: Arc<W>) -> Result<u32, Arc<W>>
         requires objects { All (λ r. r.object < length self.old.opening) (W.meaning.requests (arc_value work)) }
         requires fits { FitsShapes W.meaning (map W.meaning.shape self.old.opening) (arc_value work) }
         requires fewer { length self.old.plan + 1 < 2 ^ 32 }
@@ -142,14 +144,14 @@ impl<W: Work> Machine<W> {
         if self.outcomes.reserve(1).is_err() {
             return Err(work);
         }
-        let entry = self.table.request(seat, work)?;
+        let entry = self.table.request(alloc, seat, work)?;
         self.outcomes.push_reserved(None);
         Ok(entry)
     }
 
     /// Lends the entry what it asked for, at this seat. It is refused where the entry was dispatched before, then where an
-    /// earlier entry holds it back, and then for want of memory; the machine is then as before. A value is copied only
-    /// where another owner still shares one that is to be written.
+    /// earlier entry holds it back, and then for want of memory; the machine is then as before. The value that is to be
+    /// written is copied only where another owner still shares it, and then made ready.
     pub fn dispatch(&mut self, alloc: Global, seat: u32, j: u32) -> Result<Loan<W>, DispatchError>
         requires { j < length self.old.plan }
         // Each answer comes exactly where it is said here, but for want of memory.
@@ -171,7 +173,7 @@ impl<W: Work> Machine<W> {
         ensures spare { self.new.spare ≡ self.old.spare }
         ensures err { OnErr result (self.new ≡ self.old) }
 
-        // The loan has the entry's work and the present values of its objects.
+        // The loan has the entry's work and the present contents of its objects.
         ensures out { OnOk result (IsTrue (is_out (status_of self.new.history j))) }
         ensures entry { IfOk result (λ loan. loan.entry ≡ j) }
         ensures work { IfOk result (λ loan. slice_get self.old.plan j ≡ Some loan.work) }
@@ -188,7 +190,7 @@ impl<W: Work> Machine<W> {
             Ok(work) => work,
             Err(_) => return Err(DispatchError::OutOfMemory),
         };
-        let reads = match lend_reads(alloc, &mut self.slots, work.requests()) {
+        let reads = match lend_reads::<W>(alloc, &mut self.slots, work.requests()) {
             Ok(reads) => reads,
             Err(_) => return Err(DispatchError::OutOfMemory),
         };
@@ -215,7 +217,7 @@ impl<W: Work> Machine<W> {
         let j = done.entry();
         let (work, value, outcome) = done.kept();
         let became = self.table.release(seat, j);
-        give_back(&mut self.slots, written(work.requests()), value);
+        give_back::<W>(&mut self.slots, written(work.requests()), value);
         self.outcomes[j as usize] = Some(outcome);
         became
     }
@@ -294,21 +296,21 @@ fn is_write(mode: Mode) -> bool
 }
 
 // Shares the values of the objects that the requests ask to read. No value changes, also where memory is short.
-fn lend_reads<V: Drop>(
+fn lend_reads<W: Work>(
     alloc: Global,
-    slots: &mut [Slot<V>],
+    slots: &mut [Slot<W::Value>],
     requests: &[Request],
-) -> Result<Vec<Arc<V>>, AllocError>
+) -> Result<Vec<Arc<W::Value>>, AllocError>
     requires objects { All (λ r. r.object < length slots.old) requests.now }
-    requires home { All (λ r. IsSome (value_at slots.old r.object)) requests.now }
+    requires home { All (λ r. IsSome (content_at W.content slots.old r.object)) requests.now }
     ensures count { length slots.new ≡ length slots.old }
-    ensures same { (o : ℕ) → value_at slots.new o ≡ value_at slots.old o }
-    ensures ok { IfOk result (λ reads. map arc_value reads.items ≡ filter_map (value_at slots.old) (read_objects requests.now)) }
+    ensures same { (o : ℕ) → content_at W.content slots.new o ≡ content_at W.content slots.old o }
+    ensures ok { IfOk result (λ reads. contents W.content reads.items ≡ filter_map (content_at W.content slots.old) (read_objects requests.now)) }
 {
     let mut reads = Vec::new(alloc);
     for request in requests {
         if !is_write(request.mode) {
-            let arc = share(alloc, &mut slots[request.object as usize])?;
+            let arc = share::<W>(alloc, &mut slots[request.object as usize])?;
             reads.push(arc)?;
         }
     }
@@ -322,12 +324,13 @@ fn lend_written<W: Work>(
     object: Option<u32>,
 ) -> Result<Option<W::Value>, AllocError>
     requires there { ForSome object (λ o. o < length slots.old) }
-    requires home { ForSome object (λ o. IsSome (value_at slots.old o)) }
+    requires home { ForSome object (λ o. IsSome (content_at W.content slots.old o)) }
     ensures count { length slots.new ≡ length slots.old }
-    ensures others { (o : ℕ) → (object ≡ Some o → ⊥) → value_at slots.new o ≡ value_at slots.old o }
-    ensures ok { IfOk result (λ written. written ≡ option_and_then (value_at slots.old) object) }
-    ensures away { OnOk result ((o : ℕ) → object ≡ Some o → value_at slots.new o ≡ None) }
-    ensures err { OnErr result ((o : ℕ) → value_at slots.new o ≡ value_at slots.old o) }
+    ensures others { (o : ℕ) → (object ≡ Some o → ⊥) → content_at W.content slots.new o ≡ content_at W.content slots.old o }
+    ensures ok { IfOk result (λ written. option_map W.content written ≡ option_and_then (content_at W.content slots.old) object) }
+    ensures ready { IfOk result (λ written. IfSome written (λ value. IsTrue (W.ready value))) }
+    ensures away { OnOk result ((o : ℕ) → object ≡ Some o → content_at W.content slots.new o ≡ None) }
+    ensures err { OnErr result ((o : ℕ) → content_at W.content slots.new o ≡ content_at W.content slots.old o) }
 {
     match object {
         None => Ok(None),
@@ -336,9 +339,9 @@ fn lend_written<W: Work>(
 }
 
 // Puts the value back to this object, if there are both.
-fn give_back<V: Drop>(slots: &mut [Slot<V>], object: Option<u32>, value: Option<V>)
+fn give_back<W: Work>(slots: &mut [Slot<W::Value>], object: Option<u32>, value: Option<W::Value>)
     requires { ForSome object (λ o. o < length slots.old) }
-    ensures { PutBack slots.old slots.new object value }
+    ensures { PutBack W.content slots.old slots.new object (option_map W.content value) }
 {
     match (object, value) {
         (Some(object), Some(value)) => slots[object as usize] = Slot::Owned(value),
@@ -359,15 +362,19 @@ fn shared<V: Drop>(mut slots: Vec<Slot<V>>, objects: Vec<Arc<V>>) -> Vec<Slot<V>
 }
 
 // The objects' values, none of which is away.
-fn brought_home<V: Drop>(alloc: Global, slots: Vec<Slot<V>>) -> Result<Vec<Arc<V>>, AllocError>
-    ensures { IfOk result (λ objects. map value_in slots.items ≡ map (λ arc. Some (arc_value arc)) objects.items) }
+fn brought_home<W: Work>(
+    alloc: Global,
+    slots: Vec<Slot<W::Value>>,
+) -> Result<Vec<Arc<W::Value>>, AllocError>
+    requires { All (λ slot. IsSome (content_in W.content slot)) slots.items }
+    ensures { IfOk result (λ objects. map (content_in W.content) slots.items ≡ map (λ arc. Some (W.content (arc_value arc))) objects.items) }
 {
     let mut objects = Vec::new(alloc);
     for slot in slots {
         match slot {
             Slot::Shared(arc) => objects.push(arc)?,
             Slot::Owned(value) => objects.push(Arc::new(alloc, value)?)?,
-            Slot::Away => return Err(AllocError),
+            Slot::Away => unreachable!(),
         }
     }
     Ok(objects)

@@ -1,6 +1,6 @@
-ghost use Rattle.std.specs.Prelude.{◌≡◌, ℕ, None, IfOk, OnOk, OnErr, IsSome, Some};
+ghost use Rattle.std.specs.Prelude.{◌≡◌, ℕ, None, IfOk, OnOk, OnErr, IsSome, IsTrue, Some};
 ghost use Rattle.std.specs.Arc.{arc_value};
-ghost use Rattle.pooma_machine.specs.Slots.{value_in};
+ghost use Rattle.pooma_machine.specs.Slots.{content_in};
 
 use crate::work::Work;
 use std::alloc::{AllocError, Global};
@@ -17,11 +17,14 @@ pub(crate) enum Slot<V> {
     Away,
 }
 
-/// One more owner of the slot's value, which is there. After want of memory it is as before.
-pub(crate) fn share<V: Drop>(alloc: Global, slot: &mut Slot<V>) -> Result<Arc<V>, AllocError>
-    requires { IsSome (value_in slot.old) }
-    ensures value { value_in slot.new ≡ value_in slot.old }
-    ensures ok { IfOk result (λ arc. value_in slot.old ≡ Some (arc_value arc)) }
+/// One more owner of the slot's value, which is there. After want of memory its content is as before.
+pub(crate) fn share<W: Work>(
+    alloc: Global,
+    slot: &mut Slot<W::Value>,
+) -> Result<Arc<W::Value>, AllocError>
+    requires { IsSome (content_in W.content slot.old) }
+    ensures content { content_in W.content slot.new ≡ content_in W.content slot.old }
+    ensures ok { IfOk result (λ arc. content_in W.content slot.old ≡ Some (W.content (arc_value arc))) }
 {
     match mem::replace(slot, Slot::Away) {
         Slot::Shared(arc) => {
@@ -40,25 +43,26 @@ pub(crate) fn share<V: Drop>(alloc: Global, slot: &mut Slot<V>) -> Result<Arc<V>
                 Err(AllocError)
             }
         },
-        Slot::Away => Err(AllocError),
+        Slot::Away => unreachable!(),
     }
 }
 
-/// The slot's value, which is there, for one writer alone. It is copied only where another owner still shares it. After want
-/// of memory the slot is as before.
+/// The slot's value, which is there, for one writer alone and ready to be written. It is copied only where another owner
+/// still shares it. After want of memory its content is as before.
 pub(crate) fn take<W: Work>(
     alloc: Global,
     slot: &mut Slot<W::Value>,
 ) -> Result<W::Value, AllocError>
-    requires { IsSome (value_in slot.old) }
-    ensures ok { IfOk result (λ value. value_in slot.old ≡ Some value) }
-    ensures away { OnOk result (value_in slot.new ≡ None) }
-    ensures err { OnErr result (value_in slot.new ≡ value_in slot.old) }
+    requires { IsSome (content_in W.content slot.old) }
+    ensures ok { IfOk result (λ value. content_in W.content slot.old ≡ Some (W.content value)) }
+    ensures ready { IfOk result (λ value. IsTrue (W.ready value)) }
+    ensures away { OnOk result (content_in W.content slot.new ≡ None) }
+    ensures err { OnErr result (content_in W.content slot.new ≡ content_in W.content slot.old) }
 {
     match mem::replace(slot, Slot::Away) {
         Slot::Shared(arc) => match Arc::try_unwrap(arc) {
-            Ok(value) => Ok(value),
-            Err(arc) => match W::copied(alloc, &arc) {
+            Ok(value) => take_own::<W>(alloc, slot, value),
+            Err(arc) => match copy_ready::<W>(alloc, &arc) {
                 Ok(copy) => Ok(copy),
                 Err(e) => {
                     *slot = Slot::Shared(arc);
@@ -66,7 +70,37 @@ pub(crate) fn take<W: Work>(
                 }
             },
         },
-        Slot::Owned(value) => Ok(value),
-        Slot::Away => Err(AllocError),
+        Slot::Owned(value) => take_own::<W>(alloc, slot, value),
+        Slot::Away => unreachable!(),
     }
+}
+
+// A value that has no other owner, ready to be written. After want of memory it is in the slot, with its content.
+fn take_own<W: Work>(
+    alloc: Global,
+    slot: &mut Slot<W::Value>,
+    mut value: W::Value,
+) -> Result<W::Value, AllocError>
+    ensures ok { IfOk result (λ taken. W.content taken ≡ W.content value) }
+    ensures ready { IfOk result (λ taken. IsTrue (W.ready taken)) }
+    ensures slot { OnOk result (slot.new ≡ slot.old) }
+    ensures err { OnErr result (content_in W.content slot.new ≡ Some (W.content value)) }
+{
+    match W::prepared(alloc, &mut value) {
+        Ok(()) => Ok(value),
+        Err(e) => {
+            *slot = Slot::Owned(value);
+            Err(e)
+        }
+    }
+}
+
+// A copy of the value that is ready to be written.
+fn copy_ready<W: Work>(alloc: Global, value: &W::Value) -> Result<W::Value, AllocError>
+    ensures content { IfOk result (λ copy. W.content copy ≡ W.content value.now) }
+    ensures ready { IfOk result (λ copy. IsTrue (W.ready copy)) }
+{
+    let mut copy = W::copied(alloc, value)?;
+    W::prepared(alloc, &mut copy)?;
+    Ok(copy)
 }

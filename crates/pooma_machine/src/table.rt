@@ -66,7 +66,7 @@ impl<W: Work> Table<W> {
     }
 
     /// Makes room for so many further entries.
-    pub(crate) fn reserve(&mut self, entries: u32) -> Result<(), AllocError>
+    pub(crate) fn reserve(&mut self, alloc: Global, entries: u32) -> Result<(), AllocError>
         ensures ok { OnOk result (entries ≤ self.new.spare) }
         ensures spare { self.old.spare ≤ self.new.spare }
         ensures most { (self.new.spare ≡ self.old.spare) ⊎ (self.new.spare ≡ entries) }
@@ -79,7 +79,7 @@ impl<W: Work> Table<W> {
         self.statuses.reserve(n)?;
         let events = 3 * (self.works.len() + n);
         self.history.reserve(events - self.history.len())?;
-        reserve_all(&mut self.queues, n)?;
+        reserve_all(alloc, &mut self.queues, n)?;
         if self.spare < entries {
             self.spare = entries;
         }
@@ -119,7 +119,7 @@ impl<W: Work> Table<W> {
 
     /// Issues the next entry. Only want of memory refuses it, never while there is spare room; then all is as before, and the
     /// work is handed back.
-    pub(crate) fn request(&mut self, seat: u32, work: Arc<W>) -> Result<u32, Arc<W>>
+    pub(crate) fn request(&mut self, alloc: Global, seat: u32, work: Arc<W>) -> Result<u32, Arc<W>>
         requires objects { All (λ r. r.object < self.old.objects) (W.meaning.requests (arc_value work)) }
         requires fewer { length self.old.plan + 1 < 2 ^ 32 }
         ensures entry { IfOk result (λ entry. entry ≡ length self.old.plan) }
@@ -132,14 +132,14 @@ impl<W: Work> Table<W> {
         ensures err { OnErr result (self.new ≡ self.old) }
         ensures given_back { IfErr result (λ given. arc_value given ≡ arc_value work) }
     {
-        if room_for(&mut self.works, &mut self.statuses, &mut self.history).is_err() {
+        if room_for(alloc, &mut self.works, &mut self.statuses, &mut self.history).is_err() {
             return Err(work);
         }
-        if make_room(&mut self.queues, work.requests()).is_err() {
+        if make_room(alloc, &mut self.queues, work.requests()).is_err() {
             return Err(work);
         }
         let entry = self.works.len() as u32;
-        enter(&mut self.queues, entry, work.requests());
+        enter(alloc, &mut self.queues, entry, work.requests());
         self.works.push_reserved(work);
         self.statuses.push_reserved(Status::Waiting);
         self.history.push_reserved(Event {
@@ -306,6 +306,7 @@ fn empty_queues(alloc: Global, objects: usize) -> Result<Vec<Queue>, AllocError>
 
 // Makes room for one further entry and all its events.
 fn room_for<T>(
+    _alloc: Global,
     works: &mut Vec<T>,
     statuses: &mut Vec<Status>,
     history: &mut Vec<Event>,

@@ -74,9 +74,10 @@ impl Model for Queue {
 impl Queue {
     ghost use Rattle.pooma_queue.specs.Requests.{IsInOrder, IsGranted, blocker_of, front_of, holder_of, holds_back, let_go, released};
 
-    /// A queue with no requests. It takes no memory.
+    /// A queue with no requests and no room. It takes no memory.
     pub fn new(alloc: Global) -> Queue
-        ensures { result.requests ≡ [] }
+        ensures requests { result.requests ≡ [] }
+        ensures room { result.room ≡ 0 }
     {
         Queue {
             requests: Vec::new(alloc),
@@ -86,7 +87,7 @@ impl Queue {
 
     /// Makes room for `n` further requests. The requests stay as they are, also where memory is short. Where there is room
     /// already it takes none.
-    pub fn reserve(&mut self, n: usize) -> Result<(), AllocError>
+    pub fn reserve(&mut self, _alloc: Global, n: usize) -> Result<(), AllocError>
         ensures requests { self.new.requests ≡ self.old.requests }
         ensures ok { OnOk result (n ≤ self.new.room) }
         ensures room { self.old.room ≤ self.new.room }
@@ -111,7 +112,7 @@ impl Queue {
 
     /// Puts the request of an entry behind the others, and answers its place. Only want of memory refuses it, never where
     /// there is room, and then the queue is as before.
-    pub fn push(&mut self, entry: u32, mode: Mode) -> Result<usize, AllocError>
+    pub fn push(&mut self, _alloc: Global, entry: u32, mode: Mode) -> Result<usize, AllocError>
         requires { All (λ asked. asked.entry < entry) self.old.requests }
         ensures place { IfOk result (λ place. place ≡ length self.old.requests) }
         ensures ok { OnOk result (self.new.requests ≡ self.old.requests ++ record { entry = entry; mode = mode; released = false } ∷ []) }
