@@ -10,14 +10,13 @@ use Rattle.pooma_machine.specs.declared.step.Request.{Request}
 use Rattle.pooma_machine.specs.declared.step.Event.{Event}
 use Rattle.pooma_machine.specs.declared.step.Status.{Status}
 use Rattle.pooma_machine.specs.declared.step.Status.TheVariants as status
-use Rattle.pooma_machine.specs.declared.slot.Slot.{Slot}
 use Rattle.pooma_machine.specs.Steps.{requests_of, AsksFor, status_of, is_out, is_released, IsReady}
-use Rattle.pooma_machine.specs.Values.{Meaning, values, lent_by, written_object, read_objects, asks_of}
-use Rattle.pooma_machine.specs.Slots.{value_at}
+use Rattle.pooma_machine.specs.Values.{Meaning, Lent, FitsLent, values, lent_by, written_object, read_objects, asks_of}
+use Rattle.pooma_machine.specs.Slots.{home_at, lent_from}
 use Rattle.pooma_machine.specs.Machine.{Matches, FitsShapes}
 use Rattle.pooma_machine.proofs.Listed.{contains_cases, contains_first, contains_rest, contains_none}
-use Rattle.pooma_machine.proofs.Worth.{asks_at, out_in_plan, written_in_range}
-use Rattle.pooma_machine.proofs.Lending.{read_shapes, written_shape, filter_map_same}
+use Rattle.pooma_machine.proofs.Worth.{asks_at, asked_there, out_in_plan, not_none}
+use Rattle.pooma_machine.proofs.Lending.{read_shapes, written_shape, filter_map_same, written_holds}
 use Rattle.pooma_machine.proofs.Ties.{request_of}
 
 -- the object that a list asks to write is asked for in that mode, and those that it asks to read in that one
@@ -56,19 +55,19 @@ conflicts_write Read = (refl, refl)
 conflicts_write Write = (refl, refl)
 
 -- nothing that a ready entry asks for is away
-pub ready_home : {W V O S : Type 0} (m : Meaning W V O S) (plan : List W) (opening : List V) (history : List Event) (slots : List (Slot V)) (outcomes : List (Option O)) (work : W) (j o : ℕ) (mode : Mode)
-    → Matches m plan opening history slots outcomes → slice_get plan j ≡ Some work → IsReady (asks_of m plan) history j → o < length slots → Contains (m.requests work) (request_of o mode)
-    → IsSome (value_at slots o)
-ready_home {V = X} m plan opening history slots outcomes work j o mode old at ready within asks = by_value (value_at slots o) refl
+pub ready_home : {W V O S : Type 0} (m : Meaning W V O S) (plan : List W) (opening : List V) (history : List Event) (homes : List (Option V)) (outcomes : List (Option O)) (work : W) (j o : ℕ) (mode : Mode)
+    → Matches m plan opening history homes outcomes → slice_get plan j ≡ Some work → IsReady (asks_of m plan) history j → o < length homes → Contains (m.requests work) (request_of o mode)
+    → IsSome (home_at homes o)
+ready_home {V = X} m plan opening history homes outcomes work j o mode old at ready within asks = by_home (slice_get homes o) refl
   where
     mine : AsksFor (asks_of m plan) j o mode
     mine = rw (asks_at m plan j work at) asks
 
-    by_value : (v : Option X) → value_at slots o ≡ v → IsSome (value_at slots o)
-    by_value (Some v) e = rw e refl
-    by_value None e =
-        let gone = old.away o within e in
-        let i = gone.0 in
+    by_home : (v : Option (Option X)) → slice_get homes o ≡ v → IsSome (home_at homes o)
+    by_home None e = absurd (not_none homes o within e)
+    by_home (Some (Some v)) e = rw e refl
+    by_home (Some None) e =
+        let gone = old.away o e in
         let theirs : AsksFor (asks_of m plan) gone.0 o Write = written_asks (requests_of (asks_of m plan) gone.0) o gone.2 in
         let in_plan = out_in_plan m plan history gone.0 old.sound gone.1 in
         elim (eqb_tells gone.0 j) [
@@ -76,113 +75,67 @@ ready_home {V = X} m plan opening history slots outcomes work j o mode old at re
           | inr n ↦
               elim (leb_tells (suc gone.0) j) [
                 | inl before ↦
-                    absurd (out_not_released (status_of history gone.0) gone.1 (ready.1 gone.0 before.1 (o, record { one = Write; other = mode; asks_one = theirs; asks_other = rw (asks_at m plan j work at) asks; conflicting = (conflicts_write mode).0 })))
+                    absurd (out_not_released (status_of history gone.0) gone.1 (ready.1 gone.0 before.1 (o, record { one = Write; other = mode; asks_one = theirs; asks_other = mine; conflicting = (conflicts_write mode).0 })))
                 | inr after ↦
                     let ne : gone.0 ≢ j = n.1 in
                     let lt : j < gone.0 = omega (arith, after.1) in
                     elim (old.sound.passed gone.0 (omega (arith, in_plan, length-map plan m.requests))) [
                       | inl waits ↦ absurd (cc (sym (ap is_out waits) ∙ gone.1))
                       | inr nothing ↦
-                          absurd (cc (sym (ap is_released ready.0) ∙ nothing j lt (o, record { one = mode; other = Write; asks_one = rw (asks_at m plan j work at) asks; asks_other = theirs; conflicting = (conflicts_write mode).1 })))
+                          absurd (cc (sym (ap is_released ready.0) ∙ nothing j lt (o, record { one = mode; other = Write; asks_one = mine; asks_other = theirs; conflicting = (conflicts_write mode).1 })))
                     ]
               ]
         ]
 
 -- all that it asks for is there
-pub all_home : {W V O S : Type 0} (m : Meaning W V O S) (plan : List W) (opening : List V) (history : List Event) (slots : List (Slot V)) (outcomes : List (Option O)) (work : W) (j : ℕ)
-    → Matches m plan opening history slots outcomes → slice_get plan j ≡ Some work → IsReady (asks_of m plan) history j
-    → All (λ r. r.object < length slots) (m.requests work) × All (λ r. IsSome (value_at slots r.object)) (m.requests work)
-all_home m plan opening history slots outcomes work j old at ready = (
-  ranges,
-  λ k d h. ready_home m plan opening history slots outcomes work j (get_or (m.requests work) k d).object (get_or (m.requests work) k d).mode old at ready (ranges k d h)
-      (k, h, get_or_default (m.requests work) k (get_or (m.requests work) k d) d h),
-)
-  where
-    ranges : All (λ r. r.object < length slots) (m.requests work)
-    ranges = rw (asks_at m plan j work at) at (old.ranges j (slice_get_within plan j work at))
+pub all_home : {W V O S : Type 0} (m : Meaning W V O S) (plan : List W) (opening : List V) (history : List Event) (homes : List (Option V)) (outcomes : List (Option O)) (work : W) (j : ℕ)
+    → Matches m plan opening history homes outcomes → slice_get plan j ≡ Some work → IsReady (asks_of m plan) history j
+    → All (λ r. IsSome (home_at homes r.object)) (m.requests work)
+all_home m plan opening history homes outcomes work j old at ready k d h =
+    ready_home m plan opening history homes outcomes work j (get_or (m.requests work) k d).object (get_or (m.requests work) k d).mode old at ready (asked_there m plan opening history homes outcomes work j old at k d h)
+    (k, h, get_or_default (m.requests work) k (get_or (m.requests work) k d) d h)
 
 -- a value that is there is the present one
-pub home_value : {W V O S : Type 0} (m : Meaning W V O S) (plan : List W) (opening : List V) (history : List Event) (slots : List (Slot V)) (outcomes : List (Option O)) (o : ℕ)
-    → Matches m plan opening history slots outcomes → IsSome (value_at slots o) → value_at slots o ≡ slice_get (values m plan opening history).objects o
-home_value {V = X} m plan opening history slots outcomes o old there = by_value (value_at slots o) refl
+pub home_value : {V : Type 0} (homes : List (Option V)) (objects : List V) (o : ℕ)
+    → ((p : ℕ) (x : V) → slice_get homes p ≡ Some (Some x) → slice_get objects p ≡ Some x) → IsSome (home_at homes o) → home_at homes o ≡ slice_get objects o
+home_value {V = X} homes objects o home there = by_home (slice_get homes o) refl
   where
-    by_value : (v : Option X) → value_at slots o ≡ v → value_at slots o ≡ slice_get (values m plan opening history).objects o
-    by_value (Some v) e = e ∙ sym (old.home o v e)
-    by_value None e = absurd (cc (sym (ap is_some e) ∙ there))
+    by_home : (v : Option (Option X)) → slice_get homes o ≡ v → home_at homes o ≡ slice_get objects o
+    by_home None e = absurd (cc (sym (ap (λ (v : Option (Option X)). is_some (option_and_then (λ x. x) v)) e) ∙ there))
+    by_home (Some None) e = absurd (cc (sym (ap (λ (v : Option (Option X)). is_some (option_and_then (λ x. x) v)) e) ∙ there))
+    by_home (Some (Some x)) e = rw e (sym (home o x e))
 
--- what is lent to a ready entry is what its objects' present values lend
-pub lent_now : {W V O S : Type 0} (m : Meaning W V O S) (plan : List W) (opening : List V) (history : List Event) (slots : List (Slot V)) (outcomes : List (Option O)) (work : W) (j : ℕ)
-    → Matches m plan opening history slots outcomes → slice_get plan j ≡ Some work → IsReady (asks_of m plan) history j
-    → (option_and_then (value_at slots) (written_object (m.requests work)) ≡ (lent_by (values m plan opening history).objects (m.requests work)).written)
-    × (filter_map (value_at slots) (read_objects (m.requests work)) ≡ (lent_by (values m plan opening history).objects (m.requests work)).reads)
-lent_now m plan opening history slots outcomes work j old at ready = (one (written_object (m.requests work)) refl, filter_map_same (value_at slots) (slice_get (values m plan opening history).objects) (read_objects (m.requests work)) (λ o h. here o Read (read_asks (m.requests work) o h)))
+-- an object that is asked for in any mode has what holds of all
+pub asked_holds : (P : ℕ → Type 0) (requests : List Request) (o : ℕ) (mode : Mode) → All (λ r. P r.object) requests → Contains requests (request_of o mode) → P o
+asked_holds P requests o mode all asks = subst (λ (q : Request). P q.object) asks.2 (all asks.0 (request_of o mode) asks.1)
+
+-- what is lent to an entry whose objects are there is what their present contents lend
+pub lent_there : {V : Type 0} (homes : List (Option V)) (objects : List V) (requests : List Request)
+    → ((p : ℕ) (x : V) → slice_get homes p ≡ Some (Some x) → slice_get objects p ≡ Some x) → All (λ r. IsSome (home_at homes r.object)) requests
+    → lent_from homes requests ≡ lent_by objects requests
+lent_there {V = X} homes objects requests home there =
+    ap (λ w. pair w (filter_map (home_at homes) (read_objects requests))) (one (written_object requests) refl)
+    ∙ ap (pair (lent_by objects requests).written) (filter_map_same (home_at homes) (slice_get objects) (read_objects requests) (λ o h. home_value homes objects o home (asked_holds (λ p. IsSome (home_at homes p)) requests o Read there (read_asks requests o h))))
   where
-    ranges : All (λ r. r.object < length slots) (m.requests work)
-    ranges = rw (asks_at m plan j work at) at (old.ranges j (slice_get_within plan j work at))
+    pair : Option X → List X → Lent X
+    pair w r = record { written = w; reads = r }
 
-    here : (o : ℕ) (mode : Mode) → Contains (m.requests work) (request_of o mode) → value_at slots o ≡ slice_get (values m plan opening history).objects o
-    here o mode asks =
-        home_value m plan opening history slots outcomes o old (ready_home m plan opening history slots outcomes work j o mode old at ready (subst (λ (q : Request). q.object < length slots) asks.2 ((all_home m plan opening history slots outcomes work j old at ready).0 asks.0 (request_of o mode) asks.1)) asks)
-
-    one : (w : Option ℕ) → written_object (m.requests work) ≡ w → option_and_then (value_at slots) w ≡ option_and_then (slice_get (values m plan opening history).objects) w
+    one : (w : Option ℕ) → written_object requests ≡ w → option_and_then (home_at homes) w ≡ option_and_then (slice_get objects) w
     one None e = refl
-    one (Some o) e =
-        home_value m plan opening history slots outcomes o old (ready_home m plan opening history slots outcomes work j o Write old at ready (written_in_range (m.requests work) o (length slots) (all_home m plan opening history slots outcomes work j old at ready).0 e) (written_asks (m.requests work) o e))
+    one (Some o) e = home_value homes objects o home (written_holds (λ p. IsSome (home_at homes p)) requests o there e)
+
+-- what is lent to a ready entry is what the history gives
+pub lent_now : {W V O S : Type 0} (m : Meaning W V O S) (plan : List W) (opening : List V) (history : List Event) (homes : List (Option V)) (outcomes : List (Option O)) (work : W) (j : ℕ)
+    → Matches m plan opening history homes outcomes → slice_get plan j ≡ Some work → IsReady (asks_of m plan) history j
+    → lent_from homes (m.requests work) ≡ lent_by (values m plan opening history).objects (m.requests work)
+lent_now m plan opening history homes outcomes work j old at ready =
+    lent_there homes (values m plan opening history).objects (m.requests work) old.home (all_home m plan opening history homes outcomes work j old at ready)
 
 -- and the work fits it
-pub lent_fits : {W V O S : Type 0} (m : Meaning W V O S) (plan : List W) (opening : List V) (history : List Event) (slots : List (Slot V)) (outcomes : List (Option O)) (work : W) (j : ℕ)
-    → Matches m plan opening history slots outcomes → slice_get plan j ≡ Some work
-    → IsTrue (m.fits work (option_map m.shape (lent_by (values m plan opening history).objects (m.requests work)).written) (map m.shape (lent_by (values m plan opening history).objects (m.requests work)).reads))
-lent_fits {S = S} m plan opening history slots outcomes work j old at =
+pub lent_fits : {W V O S : Type 0} (m : Meaning W V O S) (plan : List W) (opening : List V) (history : List Event) (homes : List (Option V)) (outcomes : List (Option O)) (work : W) (j : ℕ)
+    → Matches m plan opening history homes outcomes → slice_get plan j ≡ Some work → IsReady (asks_of m plan) history j
+    → FitsLent m work (lent_from homes (m.requests work))
+lent_fits {S = S} m plan opening history homes outcomes work j old at ready =
+    let objects = (values m plan opening history).objects in
     let fits = subst (λ (shapes : List S). FitsShapes m shapes work) (sym old.shapes) (old.fitting j work at) in
-    rw (written_shape m.shape (values m plan opening history).objects (written_object (m.requests work)), read_shapes m.shape (values m plan opening history).objects (read_objects (m.requests work))) at fits
-
--- only the values in the slots matter
-pub matches_slots : {W V O S : Type 0} (m : Meaning W V O S) (plan : List W) (opening : List V) (history : List Event) (slots now : List (Slot V)) (outcomes : List (Option O))
-    → Matches m plan opening history slots outcomes → length now ≡ length slots → ((o : ℕ) → value_at now o ≡ value_at slots o) → Matches m plan opening history now outcomes
-matches_slots m plan opening history slots now outcomes old count same =
-    record {
-      sound = old.sound;
-      count = count ∙ old.count;
-      shapes = old.shapes;
-      fitting = old.fitting;
-      home = λ o value h. old.home o value (sym (same o) ∙ h);
-      away = λ o h none. old.away o (rw (sym count) h) (sym (same o) ∙ none);
-      lent = old.lent;
-      ranges = λ i h. rw count (old.ranges i h);
-      outcomes_count = old.outcomes_count;
-      kept = old.kept;
-      answered = old.answered;
-    }
-
--- a dispatch takes away the value of the object that it writes, and no other
-pub dispatch_stays : {V : Type 0} (slots now : List (Slot V)) (object : Option ℕ) → ((o : ℕ) → (object ≡ Some o → ⊥) → value_at now o ≡ value_at slots o) → ((o : ℕ) → object ≡ Some o → value_at now o ≡ None)
-    → (o : ℕ) (value : V) → value_at now o ≡ Some value → value_at slots o ≡ Some value
-dispatch_stays slots now None others away o value h = sym (others o (λ e. absurd (cc e))) ∙ h
-dispatch_stays slots now (Some p) others away o value h =
-    elim (eqb_tells p o) [
-      | inl t ↦ absurd (cc (sym h ∙ away o (ap Some t.1)))
-      | inr n ↦ sym (others o (λ e. let same : p ≡ o = cc in absurd (n.1 same))) ∙ h
-    ]
-
-pub dispatch_gone : {V : Type 0} (slots now : List (Slot V)) (object : Option ℕ) → ((o : ℕ) → (object ≡ Some o → ⊥) → value_at now o ≡ value_at slots o)
-    → (o : ℕ) → value_at now o ≡ None → (value_at slots o ≡ None) ⊎ (object ≡ Some o)
-dispatch_gone slots now None others o none = inl (sym (others o (λ e. absurd (cc e))) ∙ none)
-dispatch_gone slots now (Some p) others o none =
-    elim (eqb_tells p o) [
-      | inl t ↦ inr (ap Some t.1)
-      | inr n ↦ inl (sym (others o (λ e. let same : p ≡ o = cc in absurd (n.1 same))) ∙ none)
-    ]
-
--- the object that a ready entry writes is there
-pub written_home : {W V O S : Type 0} (m : Meaning W V O S) (plan : List W) (opening : List V) (history : List Event) (slots : List (Slot V)) (outcomes : List (Option O)) (work : W) (j o : ℕ)
-    → Matches m plan opening history slots outcomes → slice_get plan j ≡ Some work → IsReady (asks_of m plan) history j → written_object (m.requests work) ≡ Some o
-    → (o < length slots) × IsSome (value_at slots o)
-written_home m plan opening history slots outcomes work j o old at ready e =
-    let within = written_in_range (m.requests work) o (length slots) (all_home m plan opening history slots outcomes work j old at ready).0 e in
-    (within, ready_home m plan opening history slots outcomes work j o Write old at ready within (written_asks (m.requests work) o e))
-
--- only the values of the slots matter to what is taken from them
-pub taken_same : {V : Type 0} (slots now : List (Slot V)) (object : Option ℕ) → ((o : ℕ) → value_at now o ≡ value_at slots o) → option_and_then (value_at now) object ≡ option_and_then (value_at slots) object
-taken_same slots now None same = refl
-taken_same slots now (Some o) same = same o
+    subst (FitsLent m work) (sym (lent_now m plan opening history homes outcomes work j old at ready)) (rw (written_shape m.shape objects (written_object (m.requests work)), read_shapes m.shape objects (read_objects (m.requests work))) at fits)

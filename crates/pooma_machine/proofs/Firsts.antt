@@ -3,14 +3,16 @@ use Rattle.std.proofs.Common.{◌≡◌, ◌+◌, ◌<◌, ◌≤◌, ℕ, suc, 
 use Rattle.std.proofs.lemmas.Bool.Decides.{eqb_tells, leb_tells}
 use Rattle.std.proofs.lemmas.List.Folds.{position_or_len-set, position_or_len_push}
 use Rattle.std.proofs.lemmas.List.Sums.{fails_before_first, prefix_len_stops, prefix_len-le-length}
-use Rattle.std.proofs.lemmas.Option.{get_or_from_slice_get, slice_get-get_or}
+use Rattle.std.proofs.lemmas.Option.{get_or_from_slice_get, slice_get-get_or, slice_get_read}
+use Rattle.pooma_machine.specs.declared.step.EventKind.TheVariants as kind
 use Rattle.pooma_machine.specs.declared.step.Status.{Status}
 use Rattle.pooma_machine.specs.declared.step.Status.TheVariants as status
 use Rattle.pooma_queue.specs.Requests.{Waiting}
 use Rattle.pooma_machine.specs.declared.step.Request.{Request}
 use Rattle.pooma_machine.specs.declared.step.Event.{Event}
-use Rattle.pooma_machine.specs.Steps.{IsLeastUnreleased, IsReady, is_released, status_of}
+use Rattle.pooma_machine.specs.Steps.{IsLeastUnreleased, IsReady, is_out, is_released, next, status_of}
 use Rattle.pooma_machine.specs.Kept.{IsKept, first_open}
+use Rattle.pooma_machine.proofs.Keeps.{released_is}
 
 abbrev pub is_unreleased : Status → Bool
 is_unreleased s = not (is_released (Some s))
@@ -108,3 +110,13 @@ open_none plan history statuses queues kept h j within =
 -- a released entry can't be dispatched
 pub released_unready : (plan : List (List Request)) (history : List Event) (j : ℕ) → IsTrue (is_released (status_of history j)) → IsReady plan history j → ⊥
 released_unready plan history j released ready = absurd (cc (sym (ap is_released ready.0) ∙ released))
+
+-- a release moves the place of the first open status no nearer
+pub released_further : (plan : List (List Request)) (history : List Event) (statuses : List Status) (queues : List Waiting) (j : ℕ) (was new : Status) → IsKept plan history statuses queues
+    → j < length plan → IsTrue (is_out (status_of history j)) → was ≡ get_or statuses j was → ((s : ℕ) → Some new ≡ next kind.Release s (Some was))
+    → first_open statuses ≤ first_open (set statuses j new)
+released_further plan history statuses queues j was new kept within out at is =
+    let long = kept.count in
+    let read : slice_get statuses j ≡ Some was = slice_get_read statuses (length statuses) j was refl (omega arith) at in
+    let was_out : is_out (Some was) ≡ true = sym (ap is_out (kept.stands j ∙ read)) ∙ out in
+    open_released statuses j new (released_is was new was_out is).1 (omega arith)

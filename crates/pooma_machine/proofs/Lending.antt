@@ -1,37 +1,16 @@
--- What lending does to the slots, and what is lent.
-use Rattle.std.proofs.Common.{◌≡◌, ◌≢◌, ◌+◌, ◌<◌, ℕ, Bool, true, false, List, [], ◌∷◌, ◌++◌, map, length, get_or, take, set, Option, Some, None, option_map, option_and_then, slice_get, filter_map, Contains, refl, sym, ◌∙◌, ap, subst, inl, inr}
-use Rattle.std.proofs.lemmas.Bool.Decides.{eqb_tells}
-use Rattle.std.proofs.lemmas.List.{take_more, append-nil}
+-- What is lent, and where it is.
+use Rattle.std.proofs.Common.{◌≡◌, ◌+◌, ◌<◌, ℕ, suc, Bool, true, false, List, [], ◌∷◌, ◌++◌, map, length, get_or, take, Option, Some, None, IsSome, is_some, IfSome, All, Result, Ok, Err, OnErr, IsErrAnd, subst, option_map, option_and_then, slice_get, filter_map, Contains, refl, sym, ◌∙◌, ap, arith, inl, inr}
+use Rattle.std.proofs.lemmas.Bool.Decides.{leb_tells}
+use Rattle.std.proofs.lemmas.List.{take_more, append-nil, length-map}
 use Rattle.std.proofs.lemmas.List.Elements.{filter_map-append}
-use Rattle.std.proofs.lemmas.Option.{slice_get_read, slice_get-map, slice_get-get_or}
+use Rattle.std.proofs.lemmas.Option.{slice_get-map, slice_get-get_or, slice_get_past}
 use Rattle.pooma_queue.specs.declared.queue.Mode.{Mode}
 use Rattle.pooma_queue.specs.declared.queue.Mode.TheVariants.{Read, Write}
 use Rattle.pooma_machine.specs.declared.step.Request.{Request}
-use Rattle.pooma_machine.specs.declared.slot.Slot.{Slot}
-use Rattle.pooma_machine.specs.Slots.{value_at, value_in}
-use Rattle.pooma_machine.specs.Values.{read_objects, is_write, is_read}
+use Rattle.pooma_machine.specs.Slots.{home_at}
+use Rattle.pooma_machine.specs.Values.{read_objects, written_object, is_write, is_read}
 use Rattle.std.specs.List.{cons_option}
-use Rattle.pooma_machine.proofs.Listed.{contains_first, contains_rest, slice_get_written, slice_get_kept}
-
--- the value of a slot that was written, and of the others
-pub value_written : {X : Type 0} (slots : List (Slot X)) (k : ℕ) (s : Slot X) → k < length slots → value_at (set slots k s) k ≡ value_in s
-value_written slots k s h = ap (option_and_then value_in) (slice_get_written slots k s h)
-
-pub value_kept : {X : Type 0} (slots : List (Slot X)) (k o : ℕ) (s : Slot X) → k ≢ o → value_at (set slots k s) o ≡ value_at slots o
-value_kept slots k o s ne = ap (option_and_then value_in) (slice_get_kept slots k o s (λ e. ne (sym e)))
-
--- the value of a slot that was read
-pub value_read : {X : Type 0} (slots : List (Slot X)) (k : ℕ) (s : Slot X) → k < length slots → s ≡ get_or slots k s → value_at slots k ≡ value_in s
-value_read slots k s h is = ap (option_and_then value_in) (slice_get_read slots (length slots) k s refl h is)
-
--- a slot that was written with the value that it had changes nothing
-pub value_same : {X : Type 0} (slots : List (Slot X)) (k : ℕ) (old new : Slot X) → k < length slots → old ≡ get_or slots k old → value_in new ≡ value_in old
-    → (o : ℕ) → value_at (set slots k new) o ≡ value_at slots o
-value_same slots k old new h is same o =
-    elim (eqb_tells k o) [
-      | inl t ↦ subst (λ i. value_at (set slots k new) i ≡ value_at slots i) t.1 (value_written slots k new h ∙ (same ∙ sym (value_read slots k old h is)))
-      | inr n ↦ value_kept slots k o new n.1
-    ]
+use Rattle.pooma_machine.proofs.Listed.{contains_first, contains_rest}
 
 -- the objects that two parts of a list of requests ask to read
 pub read_append : (xs ys : List Request) → read_objects (xs ++ ys) ≡ read_objects xs ++ read_objects ys
@@ -91,13 +70,54 @@ filter_map_same f h (o ∷ os) same =
     ap (λ v. cons_option v (filter_map f os)) (same o (contains_first o os))
     ∙ ap (cons_option (h o)) (filter_map_same f h os (λ p more. same p (contains_rest o os p more)))
 
--- the same of a slot that is looked up
-pub value_or : {X : Type 0} (slots : List (Slot X)) (k : ℕ) (d : Slot X) → k < length slots → value_at slots k ≡ value_in (get_or slots k d)
-value_or slots k d h = ap (option_and_then value_in) (slice_get-get_or slots k d h)
+-- a slot that is looked up, among those of which contracts see an image
+pub image_at : {X Y : Type 0} (f : X → Option Y) (slots : List X) (o : ℕ) (d : X) → o < length slots → home_at (map f slots) o ≡ f (get_or slots o d)
+image_at f slots o d h = ap (option_and_then (λ home. home)) (slice_get-map f slots o ∙ ap (option_map f) (slice_get-get_or slots o d h))
 
-pub value_same_or : {X : Type 0} (slots : List (Slot X)) (k : ℕ) (d new : Slot X) → k < length slots → value_in new ≡ value_in (get_or slots k d) → (o : ℕ) → value_at (set slots k new) o ≡ value_at slots o
-value_same_or slots k d new h same o =
-    elim (eqb_tells k o) [
-      | inl t ↦ subst (λ i. value_at (set slots k new) i ≡ value_at slots i) t.1 (value_written slots k new h ∙ (same ∙ sym (value_or slots k d h)))
-      | inr n ↦ value_kept slots k o new n.1
+pub image_within : {X Y : Type 0} (f : X → Option Y) (slots : List X) (o : ℕ) → IsSome (home_at (map f slots) o) → o < length slots
+image_within f slots o there =
+    elim (leb_tells (suc o) (length slots)) [
+      | inl t ↦ t.1
+      | inr past ↦ absurd (cc (sym (ap (λ v. is_some (option_and_then (λ home. home) v)) (slice_get_past (map f slots) o (omega (arith, past.1, length-map slots f)))) ∙ there))
     ]
+
+-- what is seen of the elements of a list, by way of another list
+pub map_both : {A B C D : Type 0} (f : B → D) (s : A → B) (g : C → D) (h : A → C) (xs : List A) → ((a : A) → f (s a) ≡ g (h a)) → map f (map s xs) ≡ map g (map h xs)
+map_both f s g h [] same = refl
+map_both f s g h (x ∷ xs) same = ap (λ y. y ∷ map f (map s xs)) (same x) ∙ ap (λ ys. g (h x) ∷ ys) (map_both f s g h xs same)
+
+-- there is not both nothing and something
+pub not_both : {X : Type 0} (o : Option X) → o ≡ None → IsSome o → ⊥
+not_both None none some = absurd (cc some)
+not_both (Some x) none some = absurd (cc none)
+
+-- an element of which all have an image
+pub some_among : {X Y : Type 0} (f : X → Option Y) (front rest : List X) (x : X) → All (λ y. IsSome y) (map f (front ++ x ∷ rest)) → IsSome (f x)
+some_among f [] rest x all = all 0 (f x) (omega arith)
+some_among f (y ∷ front) rest x all = some_among f front rest x (λ k d h. all (suc k) d (omega arith))
+
+-- what holds of all objects that requests ask for holds of the one that they ask to write
+pub written_holds : (P : ℕ → Type 0) (requests : List Request) (p : ℕ) → All (λ r. P r.object) requests → written_object requests ≡ Some p → P p
+written_holds P [] p all e = absurd (cc e)
+written_holds P (r ∷ rs) p all e = by_mode (λ more. written_holds P rs p (λ k d h. all (suc k) d (omega arith)) more) (is_write r.mode) refl
+  where
+    by_mode : (written_object rs ≡ Some p → P p) → (b : Bool) → is_write r.mode ≡ b → P p
+    by_mode again true t = let both : Some r.object ≡ Some p = rw t at e in let same : r.object ≡ p = cc in subst P same (all 0 r (omega arith))
+    by_mode again false t = again (rw t at e)
+
+pub written_all : (P : ℕ → Type 0) (requests : List Request) → All (λ r. P r.object) requests → IfSome (written_object requests) P
+written_all P requests all = by_object (written_object requests) refl
+  where
+    by_object : (o : Option ℕ) → written_object requests ≡ o → IfSome o P
+    by_object None e = tt
+    by_object (Some o) e = written_holds P requests o all e
+
+-- what holds anyhow holds where a result is an error
+pub on_err_holds : {T E : Type 0} (r : Result T E) (P : Type 0) → P → OnErr r P
+on_err_holds (Ok x) P p = tt
+on_err_holds (Err e) P p = p
+
+-- an error that is known
+pub err_is : {T E : Type 0} (r : Result T E) (x : E) → IsErrAnd r (λ e. e ≡ x) → r ≡ Err x
+err_is (Ok t) x is = absurd is
+err_is (Err e) x is = ap Err is

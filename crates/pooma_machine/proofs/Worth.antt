@@ -9,15 +9,14 @@ use Rattle.pooma_machine.specs.declared.step.Event.{Event}
 use Rattle.pooma_machine.specs.declared.step.EventKind.TheVariants as kind
 use Rattle.pooma_machine.specs.declared.step.Status.{Status}
 use Rattle.pooma_machine.specs.declared.step.Status.TheVariants as status
-use Rattle.pooma_machine.specs.declared.slot.Slot.{Slot}
-use Rattle.pooma_machine.specs.Steps.{next, requests_of, status_of, is_out, is_released, event_of, IsWaiting, IsLegal}
-use Rattle.pooma_machine.specs.Values.{Meaning, Lent, Values, values, values_after, values_next, opened, lend, give_back, new_value_of, lent_by, written_object, put_back, with_at, asks_of, is_write}
-use Rattle.pooma_machine.specs.Slots.{value_at, PutBack}
+use Rattle.pooma_machine.specs.Steps.{IsRequestList, next, requests_of, status_of, is_out, is_released, event_of, IsWaiting, IsReady, IsLegal}
+use Rattle.pooma_machine.specs.Values.{Meaning, Lent, Values, values, values_after, values_next, opened, lend, give_back, new_value_of, outcome_of, lent_by, written_object, put_back, with_at, asks_of, is_write}
 use Rattle.pooma_machine.specs.Kept.{IsSound}
 use Rattle.pooma_machine.specs.Machine.{Matches, FitsShapes}
 use Rattle.pooma_machine.proofs.Listed.{same_test, other_test, slice_get_before, slice_get_last, slice_get_written, slice_get_kept}
 use Rattle.pooma_machine.proofs.Plans.{status_own, status_other, requests_of_old, requests_of_new}
-use Rattle.pooma_machine.proofs.Keeps.{slice_get_pushed}
+use Rattle.pooma_machine.proofs.Lending.{written_holds}
+use Rattle.pooma_machine.proofs.Keeps.{slice_get_pushed, sound_request, sound_dispatch, sound_release}
 
 pub not_none : {X : Type 0} (xs : List X) (k : ℕ) → k < length xs → slice_get xs k ≡ None → ⊥
 not_none [] k h e = absurd (omega arith)
@@ -76,6 +75,10 @@ asks_new m plan work =
     ap (λ p. requests_of p (length plan)) (asks_longer m plan work)
     ∙ subst (λ n. requests_of (asks_of m plan ++ m.requests work ∷ []) n ≡ m.requests work) (length-map plan m.requests) (requests_of_new (asks_of m plan) (m.requests work))
 
+-- an entry of the plan is one of those that are seen by what they ask for
+pub entry_there : {W V O S : Type 0} (m : Meaning W V O S) (plan : List W) (j : ℕ) (work : W) → slice_get plan j ≡ Some work → j < length (asks_of m plan)
+entry_there m plan j work at = let within = slice_get_within plan j work at in omega (arith, length-map plan m.requests)
+
 -- an entry that is out or was released is one of the plan
 pub out_in_plan : {W V O S : Type 0} (m : Meaning W V O S) (plan : List W) (history : List Event) (i : ℕ) → IsSound (asks_of m plan) history → IsTrue (is_out (status_of history i)) → i < length plan
 out_in_plan m plan history i sound out =
@@ -84,12 +87,12 @@ out_in_plan m plan history i sound out =
       | inr f ↦ f.1
     ]
 
-pub matches_request : {W V O S : Type 0} (m : Meaning W V O S) (plan : List W) (opening : List V) (history : List Event) (slots : List (Slot V)) (outcomes : List (Option O)) (work : W) (seat : ℕ)
-    → Matches m plan opening history slots outcomes
-    → IsSound (asks_of m (plan ++ work ∷ [])) (history ++ event_of kind.Request (length plan) seat ∷ [])
+pub matches_request : {W V O S : Type 0} (m : Meaning W V O S) (plan : List W) (opening : List V) (history : List Event) (homes : List (Option V)) (outcomes : List (Option O)) (work : W) (seat : ℕ)
+    → Matches m plan opening history homes outcomes
+    → IsRequestList (m.requests work)
     → FitsShapes m (map m.shape opening) work → All (λ r. r.object < length opening) (m.requests work)
-    → Matches m (plan ++ work ∷ []) opening (history ++ event_of kind.Request (length plan) seat ∷ []) slots (outcomes ++ None ∷ [])
-matches_request m plan opening history slots outcomes work seat old sound fits ranges =
+    → Matches m (plan ++ work ∷ []) opening (history ++ event_of kind.Request (length plan) seat ∷ []) homes (outcomes ++ None ∷ [])
+matches_request m plan opening history homes outcomes work seat old form fits ranges =
     record {
       sound = sound;
       count = old.count;
@@ -99,8 +102,8 @@ matches_request m plan opening history slots outcomes work seat old sound fits r
         | inr n ↦ old.fitting j w (sym (slice_get_pushed plan work j n.1) ∙ at)
       ];
       home = λ o value at. rw same (old.home o value at);
-      away = λ o h gone.
-          let was = old.away o h gone in
+      away = λ o gone.
+          let was = old.away o gone in
           let within = out_in_plan m plan history was.0 old.sound was.1 in
           let ne : length plan ≢ was.0 = omega arith in
           (was.0, ap is_out (status_other history kind.Request (length plan) seat was.0 ne) ∙ was.1, ap written_object (asks_old m plan work was.0 within) ∙ was.2);
@@ -118,13 +121,17 @@ matches_request m plan opening history slots outcomes work seat old sound fits r
       answered = λ j. rw same (answered_after j);
     }
   where
+    sound : IsSound (asks_of m (plan ++ work ∷ [])) (history ++ event_of kind.Request (length plan) seat ∷ [])
+    sound = subst (λ n. IsSound (asks_of m (plan ++ work ∷ [])) (history ++ event_of kind.Request n seat ∷ [])) (length-map plan m.requests)
+        (rw (asks_longer m plan work) (sound_request (asks_of m plan) history (m.requests work) seat old.sound form))
+
     same : values m (plan ++ work ∷ []) opening (history ++ event_of kind.Request (length plan) seat ∷ []) ≡ values m plan opening history
     same = values_requested m plan work opening history (length plan) seat old.sound.legal
 
-    ranges_after : (j : ℕ) → j < length (plan ++ work ∷ []) → All (λ r. r.object < length slots) (requests_of (asks_of m (plan ++ work ∷ [])) j)
+    ranges_after : (j : ℕ) → j < length (plan ++ work ∷ []) → All (λ r. r.object < length homes) (requests_of (asks_of m (plan ++ work ∷ [])) j)
     ranges_after j h =
         elim (eqb_tells (length plan) j) [
-          | inl t ↦ subst (λ k. All (λ r. r.object < length slots) (requests_of (asks_of m (plan ++ work ∷ [])) k)) t.1 (rw (asks_new m plan work, old.count) ranges)
+          | inl t ↦ subst (λ k. All (λ r. r.object < length homes) (requests_of (asks_of m (plan ++ work ∷ [])) k)) t.1 (rw (asks_new m plan work, old.count) ranges)
           | inr n ↦
               let ne : length plan ≢ j = n.1 in
               let before : j < length plan = omega (arith, length-append plan (work ∷ [])) in
@@ -165,20 +172,42 @@ with_at_own f j x = rw (same_test j) refl
 pub with_at_other : {X : Type 0} (f : ℕ → X) (j i : ℕ) (x : X) → j ≢ i → with_at f j x i ≡ f i
 with_at_other f j i x ne = rw (other_test i j (λ e. ne (sym e))) refl
 
-pub matches_dispatch : {W V O S : Type 0} (m : Meaning W V O S) (plan : List W) (opening : List V) (history : List Event) (slots now : List (Slot V)) (outcomes : List (Option O)) (work : W) (j seat : ℕ)
-    → Matches m plan opening history slots outcomes → slice_get plan j ≡ Some work → IsWaiting history j
-    → IsSound (asks_of m plan) (history ++ event_of kind.Dispatch j seat ∷ [])
-    → length now ≡ length slots
-    → ((o : ℕ) (value : V) → value_at now o ≡ Some value → value_at slots o ≡ Some value)
-    → ((o : ℕ) → o < length now → value_at now o ≡ None → (value_at slots o ≡ None) ⊎ (written_object (m.requests work) ≡ Some o))
-    → Matches m plan opening (history ++ event_of kind.Dispatch j seat ∷ []) now outcomes
-matches_dispatch {V = X} {O = O} {S = S} m plan opening history slots now outcomes work j seat old at waits sound count stays gone =
+-- what a dispatch takes away of the objects
+pub set_read : {X : Type 0} (xs : List X) (p o : ℕ) (x y : X) → slice_get (set xs p x) o ≡ Some y → ((p ≡ o) × (x ≡ y)) ⊎ ((p ≢ o) × (slice_get xs o ≡ Some y))
+set_read xs p o x y at =
+    elim (eqb_tells p o) [
+      | inl t ↦
+          let within = slice_get_within (set xs p x) o y at in
+          let own = slice_get_written xs p x (omega (arith, length-set xs p x, t.1)) in
+          let both : Some x ≡ Some y = sym own ∙ (ap (slice_get (set xs p x)) t.1 ∙ at) in
+          inl (t.1, let same : x ≡ y = cc in same)
+      | inr n ↦ inr (n.1, sym (slice_get_kept xs p o x (λ e. n.1 (sym e))) ∙ at)
+    ]
+
+pub sent_home : {X : Type 0} (homes : List (Option X)) (object : Option ℕ) (o : ℕ) (x : X) → slice_get (put_back homes object (Some None)) o ≡ Some (Some x) → slice_get homes o ≡ Some (Some x)
+sent_home homes None o x at = at
+sent_home homes (Some p) o x at = elim (set_read homes p o None (Some x) at) [ inl own ↦ absurd (cc own.1) | inr other ↦ other.1 ]
+
+pub sent_away : {X : Type 0} (homes : List (Option X)) (object : Option ℕ) (o : ℕ) → slice_get (put_back homes object (Some None)) o ≡ Some None → (slice_get homes o ≡ Some None) ⊎ (object ≡ Some o)
+sent_away homes None o at = inl at
+sent_away homes (Some p) o at = elim (set_read homes p o None None at) [ inl own ↦ inr (ap Some own.0) | inr other ↦ inl other.1 ]
+
+-- a list of which an element may be put back is as long as before
+pub length_put : {X : Type 0} (xs : List X) (object : Option ℕ) (new : Option X) → length (put_back xs object new) ≡ length xs
+length_put xs None new = refl
+length_put xs (Some p) None = refl
+length_put xs (Some p) (Some x) = length-set xs p x
+
+pub matches_dispatch : {W V O S : Type 0} (m : Meaning W V O S) (plan : List W) (opening : List V) (history : List Event) (homes : List (Option V)) (outcomes : List (Option O)) (work : W) (j seat : ℕ)
+    → Matches m plan opening history homes outcomes → slice_get plan j ≡ Some work → IsReady (asks_of m plan) history j
+    → Matches m plan opening (history ++ event_of kind.Dispatch j seat ∷ []) (put_back homes (written_object (m.requests work)) (Some None)) outcomes
+matches_dispatch {V = X} {O = O} {S = S} m plan opening history homes outcomes work j seat old at ready =
     record {
-      sound = sound;
+      sound = sound_dispatch (asks_of m plan) history j seat old.sound (entry_there m plan j work at) ready;
       count = count ∙ old.count;
       shapes = rw same old.shapes;
       fitting = old.fitting;
-      home = λ o value h. rw same (old.home o value (stays o value h));
+      home = λ o value h. rw same (old.home o value (sent_home homes (written_object (m.requests work)) o value h));
       away = away;
       lent = lent;
       ranges = λ i h. rw count (old.ranges i h);
@@ -187,6 +216,12 @@ matches_dispatch {V = X} {O = O} {S = S} m plan opening history slots now outcom
       answered = λ i. rw same (answered i);
     }
   where
+    waits : IsWaiting history j
+    waits = ready.0
+
+    count : length (put_back homes (written_object (m.requests work)) (Some None)) ≡ length homes
+    count = length_put homes (written_object (m.requests work)) (Some None)
+
     same : values m plan opening (history ++ event_of kind.Dispatch j seat ∷ []) ≡ lend m j work (values m plan opening history)
     same = values_dispatched m plan opening history j seat work at
 
@@ -198,11 +233,11 @@ matches_dispatch {V = X} {O = O} {S = S} m plan opening history slots now outcom
         ∙ (sym (slice_get-map m.shape (values m plan opening history).objects o)
         ∙ ap (λ (shapes : List S). slice_get shapes o) old.shapes)))
 
-    away : (o : ℕ) → o < length now → value_at now o ≡ None → (i : ℕ) × IsTrue (is_out (status_of (history ++ event_of kind.Dispatch j seat ∷ []) i)) × (written_object (requests_of (asks_of m plan) i) ≡ Some o)
-    away o h none =
-        elim (gone o h none) [
+    away : (o : ℕ) → slice_get (put_back homes (written_object (m.requests work)) (Some None)) o ≡ Some None → (i : ℕ) × IsTrue (is_out (status_of (history ++ event_of kind.Dispatch j seat ∷ []) i)) × (written_object (requests_of (asks_of m plan) i) ≡ Some o)
+    away o none =
+        elim (sent_away homes (written_object (m.requests work)) o none) [
           | inl before ↦
-              let was = old.away o (rw (sym count) h) before in
+              let was = old.away o before in
               (was.0, ap is_out (status_other history kind.Dispatch j seat was.0 (λ e. absurd (cc (sym (ap is_out waits) ∙ (ap (λ k. is_out (status_of history k)) e ∙ was.1))))) ∙ was.1, was.2)
           | inr mine ↦ (j, ap is_out (status_own history kind.Dispatch j seat), ap written_object (asks_at m plan j work at) ∙ mine)
         ]
@@ -240,144 +275,129 @@ released_next seat (Some status.Waiting) out = absurd (cc out)
 released_next seat (Some (status.Released at)) out = absurd (cc out)
 released_next seat (Some (status.Out at)) out = (refl, refl)
 
--- the object that a list of requests asks to write is one of its objects
-pub written_in_range : (requests : List Request) (p n : ℕ) → All (λ r. r.object < n) requests → written_object requests ≡ Some p → p < n
-written_in_range [] p n all e = absurd (cc e)
-written_in_range (r ∷ rs) p n all e = by_mode (λ more. written_in_range rs p n (λ k d h. all (suc k) d (omega arith)) more) (is_write r.mode) refl
-  where
-    by_mode : (written_object rs ≡ Some p → p < n) → (b : Bool) → is_write r.mode ≡ b → p < n
-    by_mode again true t = let both : Some r.object ≡ Some p = rw t at e in let same : r.object ≡ p = cc in let h : r.object < n = all 0 r (omega arith) in omega arith
-    by_mode again false t = again (rw t at e)
-
-pub object_written : {W V O S : Type 0} (m : Meaning W V O S) (plan : List W) (opening : List V) (history : List Event) (slots : List (Slot V)) (outcomes : List (Option O)) (work : W) (j p : ℕ)
-    → Matches m plan opening history slots outcomes → slice_get plan j ≡ Some work → written_object (m.requests work) ≡ Some p → p < length opening
-object_written m plan opening history slots outcomes work j p old at e =
-    let count = old.count in
-    let h : p < length slots = written_in_range (m.requests work) p (length slots) (rw (asks_at m plan j work at) at (old.ranges j (slice_get_within plan j work at))) e in
-    omega arith
+-- what an entry of the plan asks for is there
+pub asked_there : {W V O S : Type 0} (m : Meaning W V O S) (plan : List W) (opening : List V) (history : List Event) (homes : List (Option V)) (outcomes : List (Option O)) (work : W) (j : ℕ)
+    → Matches m plan opening history homes outcomes → slice_get plan j ≡ Some work → All (λ r. r.object < length homes) (m.requests work)
+asked_there m plan opening history homes outcomes work j old at = rw (asks_at m plan j work at) at (old.ranges j (slice_get_within plan j work at))
 
 -- an entry that was lent a value to write gives one back
-pub value_given_back : {W V O S : Type 0} (m : Meaning W V O S) (plan : List W) (opening : List V) (history : List Event) (slots : List (Slot V)) (outcomes : List (Option O)) (work : W) (j p : ℕ) (new : Option V)
-    → Matches m plan opening history slots outcomes → slice_get plan j ≡ Some work → IsTrue (is_out (status_of history j))
+pub value_given_back : {W V O S : Type 0} (m : Meaning W V O S) (plan : List W) (opening : List V) (history : List Event) (homes : List (Option V)) (outcomes : List (Option O)) (work : W) (j p : ℕ) (new : Option V)
+    → Matches m plan opening history homes outcomes → slice_get plan j ≡ Some work → IsTrue (is_out (status_of history j))
     → option_map m.shape new ≡ option_map m.shape ((values m plan opening history).lent j).written
     → written_object (m.requests work) ≡ Some p → new ≡ None → ⊥
-value_given_back m plan opening history slots outcomes work j p new old at out shape e none =
-    let there = object_written m plan opening history slots outcomes work j p old at e in
+value_given_back m plan opening history homes outcomes work j p new old at out shape e none =
+    let there : p < length homes = written_holds (λ o. o < length homes) (m.requests work) p (asked_there m plan opening history homes outcomes work j old at) e in
+    let count = old.count in
     let of_shape = old.lent j p out (ap written_object (asks_at m plan j work at) ∙ e) in
     not_none (map m.shape opening) p (omega (arith, there, length-map opening m.shape)) (sym of_shape ∙ (sym shape ∙ ap (option_map m.shape) none))
 
-pub given_back_there : {W V O S : Type 0} (m : Meaning W V O S) (plan : List W) (opening : List V) (history : List Event) (slots now : List (Slot V)) (outcomes : List (Option O)) (work : W) (j p : ℕ) (new : Option V)
-    → Matches m plan opening history slots outcomes → slice_get plan j ≡ Some work → IsTrue (is_out (status_of history j))
-    → option_map m.shape new ≡ option_map m.shape ((values m plan opening history).lent j).written
-    → PutBack slots now (written_object (m.requests work)) new
-    → written_object (m.requests work) ≡ Some p → value_at now p ≡ None → ⊥
-given_back_there m plan opening history slots now outcomes work j p None old at out shape put e none = value_given_back m plan opening history slots outcomes work j p None old at out shape e refl
-given_back_there m plan opening history slots now outcomes work j p (Some w) old at out shape put e none = absurd (cc (sym none ∙ put.own p w e refl))
+-- the objects that are there, after a value was put back to one
+pub put_home : {X : Type 0} (homes : List (Option X)) (objects : List X) (object : Option ℕ) (new : Option X) → length homes ≡ length objects
+    → ((o : ℕ) (x : X) → slice_get homes o ≡ Some (Some x) → slice_get objects o ≡ Some x)
+    → (o : ℕ) (x : X) → slice_get (put_back homes object (option_map (λ y. Some y) new)) o ≡ Some (Some x) → slice_get (put_back objects object new) o ≡ Some x
+put_home homes objects None new count old o x at = old o x at
+put_home homes objects (Some p) None count old o x at = old o x at
+put_home homes objects (Some p) (Some w) count old o x at =
+    elim (set_read homes p o (Some w) (Some x) at) [
+      | inl own ↦
+          let within = slice_get_within (set homes p (Some w)) o (Some x) at in
+          let both : Some w ≡ Some x = own.1 in
+          subst (λ k. slice_get (set objects p w) k ≡ Some x) own.0 (slice_get_written objects p w (omega (arith, count, length-set homes p (Some w), own.0)) ∙ both)
+      | inr other ↦ slice_get_kept objects p o w (λ e. other.0 (sym e)) ∙ old o x other.1
+    ]
 
-pub matches_release : {W V O S : Type 0} (m : Meaning W V O S) (plan : List W) (opening : List V) (history : List Event) (slots now : List (Slot V)) (outcomes : List (Option O)) (work : W) (j seat : ℕ) (new : Option V) (answer : O)
-    → Matches m plan opening history slots outcomes → slice_get plan j ≡ Some work → IsTrue (is_out (status_of history j))
-    → IsSound (asks_of m plan) (history ++ event_of kind.Release j seat ∷ [])
+pub put_away : {X : Type 0} (homes : List (Option X)) (object : Option ℕ) (new : Option X) (o : ℕ) → slice_get (put_back homes object (option_map (λ y. Some y) new)) o ≡ Some None
+    → (slice_get homes o ≡ Some None) × (object ≡ Some o → new ≡ None)
+put_away homes None new o at = (at, λ e. absurd (cc e))
+put_away homes (Some p) None o at = (at, λ e. refl)
+put_away homes (Some p) (Some w) o at =
+    elim (set_read homes p o (Some w) None at) [
+      | inl own ↦ absurd (cc own.1)
+      | inr other ↦ (other.1, λ e. let same : p ≡ o = cc in absurd (other.0 same))
+    ]
+
+pub put_shapes : {X Y : Type 0} (f : X → Y) (objects : List X) (object : Option ℕ) (new : Option X)
+    → ((p : ℕ) (w : X) → object ≡ Some p → new ≡ Some w → slice_get (map f objects) p ≡ Some (f w))
+    → map f (put_back objects object new) ≡ map f objects
+put_shapes f objects None new fits = refl
+put_shapes f objects (Some p) None fits = refl
+put_shapes f objects (Some p) (Some w) fits = map_set_same f objects p w (fits p w refl refl)
+
+pub matches_release : {W V O S : Type 0} (m : Meaning W V O S) (plan : List W) (opening : List V) (history : List Event) (homes : List (Option V)) (outcomes : List (Option O)) (work : W) (j seat : ℕ) (new : Option V) (answer : O)
+    → Matches m plan opening history homes outcomes → slice_get plan j ≡ Some work → IsTrue (is_out (status_of history j))
     → new ≡ new_value_of m work ((values m plan opening history).lent j)
     → option_map m.shape new ≡ option_map m.shape ((values m plan opening history).lent j).written
-    → answer ≡ m.outcome work ((values m plan opening history).lent j).written ((values m plan opening history).lent j).reads
-    → PutBack slots now (written_object (m.requests work)) new
-    → Matches m plan opening (history ++ event_of kind.Release j seat ∷ []) now (set outcomes j (Some answer))
-matches_release {V = X} {O = O} {S = S} m plan opening history slots now outcomes work j seat new answer old at out sound new_is shape answer_is put =
+    → answer ≡ outcome_of m work ((values m plan opening history).lent j)
+    → Matches m plan opening (history ++ event_of kind.Release j seat ∷ []) (put_back homes (written_object (m.requests work)) (option_map (λ w. Some w) new)) (set outcomes j (Some answer))
+matches_release {V = X} {O = O} {S = S} m plan opening history homes outcomes work j seat new answer old at out new_is shape answer_is =
     record {
-      sound = sound;
-      count = put.count ∙ old.count;
-      shapes = ap (λ (v : Values X O). map m.shape v.objects) same ∙ shapes (written_object (m.requests work)) refl;
+      sound = sound_release (asks_of m plan) history j seat old.sound (entry_there m plan j work at) out;
+      count = count ∙ old.count;
+      shapes = ap (λ (v : Values X O). map m.shape v.objects) same ∙ (put_shapes m.shape before.objects object new fitting ∙ old.shapes);
       fitting = old.fitting;
-      home = λ o value h. ap (λ (v : Values X O). slice_get v.objects o) same ∙ home (written_object (m.requests work)) refl o value h;
-      away = λ o h none. away (written_object (m.requests work)) refl o h none;
+      home = λ o value h. ap (λ (v : Values X O). slice_get v.objects o) same ∙ put_home homes before.objects object new long old.home o value h;
+      away = λ o none.
+          let gone = put_away homes object new o none in
+          let was = old.away o gone.0 in
+          let ne : j ≢ was.0 = λ k.
+          let mine : object ≡ Some o = sym (ap written_object (asks_at m plan j work at)) ∙ (ap (λ i. written_object (requests_of (asks_of m plan) i)) k ∙ was.2) in
+          absurd (value_given_back m plan opening history homes outcomes work j o new old at out shape mine (gone.1 mine)) in
+          (was.0, ap is_out (status_other history kind.Release j seat was.0 ne) ∙ was.1, was.2);
       lent = λ i o still asks.
           let ne : j ≢ i = λ e. absurd (cc (sym (ap is_out (status_own history kind.Release j seat) ∙ (released_next seat (status_of history j) out).1) ∙ (ap (λ k. is_out (status_of (history ++ event_of kind.Release j seat ∷ []) k)) e ∙ still))) in
           ap (λ (v : Values X O). option_map m.shape (v.lent i).written) same ∙ old.lent i o (sym (ap is_out (status_other history kind.Release j seat i ne)) ∙ still) asks;
-      ranges = λ i h. rw put.count (old.ranges i h);
+      ranges = λ i h. rw count (old.ranges i h);
       outcomes_count = length-set outcomes j (Some answer) ∙ old.outcomes_count;
       kept = kept;
       answered = answered;
     }
   where
-    same : values m plan opening (history ++ event_of kind.Release j seat ∷ []) ≡ give_back m j work (values m plan opening history)
-    same = values_released m plan opening history j seat work at
+    object : Option ℕ
+    object = written_object (m.requests work)
 
-    shapes : (wo : Option ℕ) → written_object (m.requests work) ≡ wo → map m.shape (put_back (values m plan opening history).objects (written_object (m.requests work)) (new_value_of m work ((values m plan opening history).lent j))) ≡ map m.shape opening
-    shapes None e = rw e old.shapes
-    shapes (Some p) e = rw e (by_new p e new refl)
-      where
-        by_new : (p : ℕ) → written_object (m.requests work) ≡ Some p → (w : Option X) → new ≡ w → map m.shape (put_back (values m plan opening history).objects (Some p) (new_value_of m work ((values m plan opening history).lent j))) ≡ map m.shape opening
-        by_new p e None w = rw (sym new_is ∙ w) old.shapes
-        by_new p e (Some w) w_is =
-            let of_shape = old.lent j p out (ap written_object (asks_at m plan j work at) ∙ e) in
-            let there : slice_get (map m.shape (values m plan opening history).objects) p ≡ Some (m.shape w) =
-            ap (λ (shapes : List S). slice_get shapes p) old.shapes ∙ (sym of_shape ∙ (sym shape ∙ ap (option_map m.shape) w_is)) in
-            rw (sym new_is ∙ w_is) (map_set_same m.shape (values m plan opening history).objects p w there ∙ old.shapes)
+    before : Values X O
+    before = values m plan opening history
 
-    home : (wo : Option ℕ) → written_object (m.requests work) ≡ wo → (o : ℕ) (value : X) → value_at now o ≡ Some value → slice_get (put_back (values m plan opening history).objects (written_object (m.requests work)) (new_value_of m work ((values m plan opening history).lent j))) o ≡ Some value
-    home None e o value h = rw e (old.home o value (sym (put.others o (λ some. absurd (cc (sym e ∙ some)))) ∙ h))
-    home (Some p) e o value h = rw e (by_new p e o value h new refl)
-      where
-        by_new : (p : ℕ) → written_object (m.requests work) ≡ Some p → (o : ℕ) (value : X) → value_at now o ≡ Some value → (w : Option X) → new ≡ w
-            → slice_get (put_back (values m plan opening history).objects (Some p) (new_value_of m work ((values m plan opening history).lent j))) o ≡ Some value
-        by_new p e o value h None w_is = absurd (value_given_back m plan opening history slots outcomes work j p new old at out shape e w_is)
-        by_new p e o value h (Some w) w_is =
-            let long = ap length old.shapes in
-            let objects = length-map (values m plan opening history).objects m.shape in
-            let there : p < length opening = object_written m plan opening history slots outcomes work j p old at e in
-            rw (sym new_is ∙ w_is) (elim (eqb_tells p o) [
-              | inl t ↦
-                  let mine : value_at now p ≡ Some w = put.own p w e w_is in
-                  subst (λ k. slice_get (set (values m plan opening history).objects p w) k ≡ Some value) t.1
-                  (slice_get_written (values m plan opening history).objects p w (omega (arith, length-map opening m.shape)) ∙ (sym mine ∙ (ap (value_at now) t.1 ∙ h)))
-              | inr n ↦
-                  slice_get_kept (values m plan opening history).objects p o w (λ k. n.1 (sym k))
-                  ∙ old.home o value (sym (put.others o (λ some. let both : Some p ≡ Some o = sym e ∙ some in let k : p ≡ o = cc in absurd (n.1 k))) ∙ h)
-            ])
+    same : values m plan opening (history ++ event_of kind.Release j seat ∷ []) ≡ record { objects = put_back before.objects object new; lent = before.lent; outcome = with_at before.outcome j (Some answer) }
+    same = rw (new_is, answer_is) (values_released m plan opening history j seat work at)
 
-    away : (wo : Option ℕ) → written_object (m.requests work) ≡ wo → (o : ℕ) → o < length now → value_at now o ≡ None → (i : ℕ) × IsTrue (is_out (status_of (history ++ event_of kind.Release j seat ∷ []) i)) × (written_object (requests_of (asks_of m plan) i) ≡ Some o)
-    away None e o h none =
-        let was = old.away o (rw (sym put.count) h) (sym (put.others o (λ some. absurd (cc (sym e ∙ some)))) ∙ none) in
-        let ne : j ≢ was.0 = λ k. absurd (cc (sym e ∙ (sym (ap written_object (asks_at m plan j work at)) ∙ (ap (λ i. written_object (requests_of (asks_of m plan) i)) k ∙ was.2)))) in
-        (was.0, ap is_out (status_other history kind.Release j seat was.0 ne) ∙ was.1, was.2)
-    away (Some p) e o h none =
-        let apart : p ≢ o = λ k. given_back_there m plan opening history slots now outcomes work j p new old at out shape put e (ap (value_at now) k ∙ none) in
-        let was = old.away o (rw (sym put.count) h) (sym (put.others o (λ some. let both : Some p ≡ Some o = sym e ∙ some in let k : p ≡ o = cc in absurd (apart k))) ∙ none) in
-        let ne : j ≢ was.0 = λ k.
-        let both : Some p ≡ Some o = sym e ∙ (sym (ap written_object (asks_at m plan j work at)) ∙ (ap (λ i. written_object (requests_of (asks_of m plan) i)) k ∙ was.2)) in
-        let q : p ≡ o = cc in
-        absurd (apart q) in
-        (was.0, ap is_out (status_other history kind.Release j seat was.0 ne) ∙ was.1, was.2)
+    count : length (put_back homes object (option_map (λ w. Some w) new)) ≡ length homes
+    count = length_put homes object (option_map (λ w. Some w) new)
+
+    long : length homes ≡ length before.objects
+    long = let shapes = ap length old.shapes in let c = old.count in omega (arith, length-map before.objects m.shape, length-map opening m.shape)
+
+    fitting : (p : ℕ) (w : X) → object ≡ Some p → new ≡ Some w → slice_get (map m.shape before.objects) p ≡ Some (m.shape w)
+    fitting p w e is =
+        let of_shape = old.lent j p out (ap written_object (asks_at m plan j work at) ∙ e) in
+        ap (λ (shapes : List S). slice_get shapes p) old.shapes ∙ (sym of_shape ∙ (sym shape ∙ ap (option_map m.shape) is))
+
+    own : (values m plan opening (history ++ event_of kind.Release j seat ∷ [])).outcome j ≡ Some answer
+    own = ap (λ (v : Values X O). v.outcome j) same ∙ with_at_own before.outcome j (Some answer)
+
+    others : (i : ℕ) → j ≢ i → (values m plan opening (history ++ event_of kind.Release j seat ∷ [])).outcome i ≡ before.outcome i
+    others i ne = ap (λ (v : Values X O). v.outcome i) same ∙ with_at_other before.outcome j i (Some answer) ne
 
     kept : (i : ℕ) → i < length plan → slice_get (set outcomes j (Some answer)) i ≡ Some ((values m plan opening (history ++ event_of kind.Release j seat ∷ [])).outcome i)
     kept i h =
-        let count = old.outcomes_count in
+        let long = old.outcomes_count in
         elim (eqb_tells j i) [
           | inl t ↦ subst (λ k. slice_get (set outcomes j (Some answer)) k ≡ Some ((values m plan opening (history ++ event_of kind.Release j seat ∷ [])).outcome k)) t.1
-              (slice_get_written outcomes j (Some answer) (let within = slice_get_within plan j work at in omega arith)
-              ∙ ap Some (ap Some answer_is ∙ sym (ap (λ (v : Values X O). v.outcome j) (values_released m plan opening history j seat work at) ∙ with_at_own (values m plan opening history).outcome j _)))
-          | inr n ↦
-              slice_get_kept outcomes j i (Some answer) (λ e. n.1 (sym e)) ∙ (old.kept i h
-              ∙ ap Some (sym (ap (λ (v : Values X O). v.outcome i) (values_released m plan opening history j seat work at) ∙ with_at_other (values m plan opening history).outcome j i _ n.1)))
+              (slice_get_written outcomes j (Some answer) (let within = slice_get_within plan j work at in omega arith) ∙ ap Some (sym own))
+          | inr n ↦ slice_get_kept outcomes j i (Some answer) (λ e. n.1 (sym e)) ∙ (old.kept i h ∙ ap Some (sym (others i n.1)))
         ]
 
     answered : (i : ℕ) → is_some ((values m plan opening (history ++ event_of kind.Release j seat ∷ [])).outcome i) ≡ is_released (status_of (history ++ event_of kind.Release j seat ∷ []) i)
     answered i =
         elim (eqb_tells j i) [
           | inl t ↦ subst (λ k. is_some ((values m plan opening (history ++ event_of kind.Release j seat ∷ [])).outcome k) ≡ is_released (status_of (history ++ event_of kind.Release j seat ∷ []) k)) t.1
-              (ap is_some (ap (λ (v : Values X O). v.outcome j) (values_released m plan opening history j seat work at) ∙ with_at_own (values m plan opening history).outcome j _)
-              ∙ sym (ap is_released (status_own history kind.Release j seat) ∙ (released_next seat (status_of history j) out).0))
-          | inr n ↦
-              ap is_some (ap (λ (v : Values X O). v.outcome i) (values_released m plan opening history j seat work at) ∙ with_at_other (values m plan opening history).outcome j i _ n.1)
-              ∙ (old.answered i ∙ sym (ap is_released (status_other history kind.Release j seat i n.1)))
+              (ap is_some own ∙ sym (ap is_released (status_own history kind.Release j seat) ∙ (released_next seat (status_of history j) out).0))
+          | inr n ↦ ap is_some (others i n.1) ∙ (old.answered i ∙ sym (ap is_released (status_other history kind.Release j seat i n.1)))
         ]
 
 -- what a dispatch lends to its own entry
-pub lent_own : {W V O S : Type 0} (m : Meaning W V O S) (plan : List W) (opening : List V) (history : List Event) (j seat : ℕ) (work : W) (written : Option V) (reads : List V) → slice_get plan j ≡ Some work
-    → written ≡ (lent_by (values m plan opening history).objects (m.requests work)).written → reads ≡ (lent_by (values m plan opening history).objects (m.requests work)).reads
-    → record { written = written; reads = reads } ≡ (values m plan opening (history ++ event_of kind.Dispatch j seat ∷ [])).lent j
-lent_own {V = X} {O = O} m plan opening history j seat work written reads at e1 e2 =
-    let lends : (values m plan opening (history ++ event_of kind.Dispatch j seat ∷ [])).lent j ≡ lent_by (values m plan opening history).objects (m.requests work) =
-    ap (λ (v : Values X O). v.lent j) (values_dispatched m plan opening history j seat work at) ∙ with_at_own (values m plan opening history).lent j (lent_by (values m plan opening history).objects (m.requests work)) in
-    let pair : Option X → List X → Lent X = λ w r. record { written = w; reads = r } in
-    ap (λ w. pair w reads) e1 ∙ (ap (pair (lent_by (values m plan opening history).objects (m.requests work)).written) e2 ∙ sym lends)
+pub lent_own : {W V O S : Type 0} (m : Meaning W V O S) (plan : List W) (opening : List V) (history : List Event) (j seat : ℕ) (work : W) → slice_get plan j ≡ Some work
+    → lent_by (values m plan opening history).objects (m.requests work) ≡ (values m plan opening (history ++ event_of kind.Dispatch j seat ∷ [])).lent j
+lent_own {V = X} {O = O} m plan opening history j seat work at =
+    let before = values m plan opening history in
+    sym (ap (λ (v : Values X O). v.lent j) (values_dispatched m plan opening history j seat work at) ∙ with_at_own before.lent j (lent_by before.objects (m.requests work)))

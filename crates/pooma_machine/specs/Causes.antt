@@ -2,8 +2,8 @@
 use Rattle.std.specs.Prelude.{ℕ, List}
 use Rattle.pooma_machine.specs.declared.step.Request.{Request}
 use Rattle.pooma_machine.specs.declared.step.Event.{Event}
-use Rattle.pooma_machine.specs.declared.machine.DispatchError.{DispatchError}
-use Rattle.pooma_machine.specs.declared.machine.DispatchError.TheVariants.{Already, NotReady, OutOfMemory}
+use Rattle.pooma_machine.specs.declared.refusal.DispatchError.{DispatchError}
+use Rattle.pooma_machine.specs.declared.refusal.DispatchError.TheVariants.{Already, NotReady, OutOfMemory}
 use Rattle.pooma_machine.specs.Steps.{IsDispatchedAt, IsHeldBack, IsReady}
 
 -- each answer with what it says of the entry; no two of these hold at once

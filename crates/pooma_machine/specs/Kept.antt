@@ -9,16 +9,6 @@ use Rattle.pooma_machine.specs.declared.step.Status.TheVariants as status
 use Rattle.pooma_machine.specs.Steps.{IsRequestList, IsLegal, IsWaiting, NothingBlocks, status_of, issued, is_released}
 use Rattle.pooma_machine.specs.Lines.{IsTied, room_at}
 
--- the history is legal; the statuses and the queues are those that it gives
-pub record IsKept (plan : List (List Request)) (history : List Event) (statuses : List Status) (queues : List Waiting) : Type 0 where
-  pub legal : IsLegal plan history
-  pub issued : issued history ≡ length plan
-  pub count : length statuses ≡ length plan
-  pub stands : (j : ℕ) → status_of history j ≡ slice_get statuses j
-  pub passed : (j : ℕ) → j < length plan → IsWaiting history j ⊎ NothingBlocks plan history j
-  pub form : All IsRequestList plan
-  pub tied : IsTied plan (λ i. is_released (status_of history i)) queues
-
 -- a history is legal, has issued each entry of the plan and no other, and none was dispatched before its time
 pub record IsSound (plan : List (List Request)) (history : List Event) : Type 0 where
   pub legal : IsLegal plan history
@@ -26,6 +16,13 @@ pub record IsSound (plan : List (List Request)) (history : List Event) : Type 0 
   pub ended : (j : ℕ) → length plan ≤ j → status_of history j ≡ None
   pub passed : (j : ℕ) → j < length plan → IsWaiting history j ⊎ NothingBlocks plan history j
   pub form : All IsRequestList plan
+
+-- the history is sound; the statuses and the queues are those that it gives
+pub record IsKept (plan : List (List Request)) (history : List Event) (statuses : List Status) (queues : List Waiting) : Type 0 where
+  pub sound : IsSound plan history
+  pub count : length statuses ≡ length plan
+  pub stands : (j : ℕ) → status_of history j ≡ slice_get statuses j
+  pub tied : IsTied plan (λ i. is_released (status_of history i)) queues
 
 -- the place of the first status that isn't released; the number of statuses where there is none
 abbrev pub first_open : List Status → ℕ

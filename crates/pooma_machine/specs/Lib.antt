@@ -4,7 +4,6 @@ pub mod Values
 pub mod Behind
 pub mod Lines
 pub mod Kept
-pub mod Refusals
 pub mod Slots
 pub mod Machine
 pub mod Causes

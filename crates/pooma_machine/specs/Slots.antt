@@ -1,11 +1,12 @@
 -- Where the objects' values are, and what they stand for.
-use Rattle.std.specs.Prelude.{◌≡◌, ℕ, List, length, map, Option, Some, None, slice_get, option_map, option_and_then}
+use Rattle.std.specs.Prelude.{ℕ, List, map, filter_map, Option, Some, None, slice_get, option_map, option_and_then}
 use Rattle.std.specs.Arc.{arc_value}
 use Rattle.std.specs.declared.alloc.Global.{Global}
 use Rattle.std.specs.declared.sync.Arc.{Arc}
+use Rattle.pooma_machine.specs.declared.step.Request.{Request}
 use Rattle.pooma_machine.specs.declared.slot.Slot.{Slot}
 use Rattle.pooma_machine.specs.declared.slot.Slot.TheVariants.{Shared, Owned, Away}
-use Rattle.pooma_machine.specs.Values.{Lent}
+use Rattle.pooma_machine.specs.Values.{Lent, read_objects, written_object}
 
 -- the contents of shared values
 abbrev pub contents : {V C : Type 0} → (V → C) → List (Arc V Global) → List C
@@ -22,11 +23,13 @@ content_in content (Owned value) = Some (content value)
 content_in content Away = None
 
 -- the content of the object of this number, if it is there and isn't lent to write
-abbrev pub content_at : {V C : Type 0} → (V → C) → List (Slot V) → ℕ → Option C
-content_at content slots object = option_and_then (content_in content) (slice_get slots object)
+abbrev pub home_at : {C : Type 0} → List (Option C) → ℕ → Option C
+home_at homes object = option_and_then (λ home. home) (slice_get homes object)
 
--- the slots after a value was put back to an object, if there are both: the others are as before
-pub record PutBack {V C : Type 0} (content : V → C) (slots now : List (Slot V)) (object : Option ℕ) (new : Option C) : Type 0 where
-  pub count : length now ≡ length slots
-  pub own : (o : ℕ) (value : C) → object ≡ Some o → new ≡ Some value → content_at content now o ≡ Some value
-  pub others : (o : ℕ) → (object ≡ Some o → ⊥) → content_at content now o ≡ content_at content slots o
+-- what the objects that are there lend to read to an entry with these requests
+abbrev pub reads_from : {C : Type 0} → List (Option C) → List Request → List C
+reads_from homes requests = filter_map (home_at homes) (read_objects requests)
+
+-- what they lend to it in all
+abbrev pub lent_from : {C : Type 0} → List (Option C) → List Request → Lent C
+lent_from homes requests = record { written = option_and_then (home_at homes) (written_object requests); reads = reads_from homes requests }

@@ -5,8 +5,9 @@
 pub use became::Became;
 pub use journal::{Entry, Journal, ListJournal, NoJournal, RequestList};
 pub use loan::{Done, Loan};
-pub use machine::{DispatchError, Machine};
+pub use machine::Machine;
 pub use pooma_queue::Mode;
+pub use refusal::DispatchError;
 pub use step::{Event, EventKind, Request, Status};
 pub use work::Work;
 
@@ -15,6 +16,8 @@ mod journal;
 mod lines;
 mod loan;
 mod machine;
+mod objects;
+mod refusal;
 mod slot;
 mod step;
 mod table;

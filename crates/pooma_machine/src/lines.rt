@@ -1,10 +1,12 @@
-ghost use Rattle.std.specs.Prelude.{◌≡◌, ◌+◌, ◌<◌, ◌≤◌, ◌++◌, ℕ, All, OnOk, IsOk, length};
+ghost use Rattle.std.specs.Prelude.{◌≡◌, ◌+◌, ◌<◌, ◌≤◌, ◌++◌, ℕ, [], All, IfOk, OnOk, IsOk, length};
+ghost use Rattle.pooma_queue.specs.Requests.{front_of};
 ghost use Rattle.pooma_machine.specs.Steps.{IsRequestList};
 ghost use Rattle.pooma_machine.specs.Lines.{line, room_at, asked_at, line_after, lesser, held_by};
 
 use crate::step::Request;
-use pooma_queue::Queue;
+use pooma_queue::{Asked, Queue};
 use std::alloc::{AllocError, Global};
+use std::marker::Model;
 
 // What holds an entry back: an earlier entry, and the object over which the two conflict.
 #[derive(Clone, Copy)]
@@ -13,73 +15,114 @@ pub(crate) struct Holder {
     pub(crate) by: u32,
 }
 
-/// Makes room for one further request in the queue of each object that is asked for.
-pub(crate) fn make_room(alloc: Global, queues: &mut [Queue], requests: &[Request]) -> Result<(), AllocError>
-    requires { All (λ r. r.object < length queues.old) requests.now }
-    ensures lines { (o : ℕ) → line queues.new o ≡ line queues.old o }
-    ensures rooms { (o : ℕ) → room_at queues.old o ≤ room_at queues.new o }
-    ensures ok { OnOk result (All (λ r. 0 < room_at queues.new r.object) requests.now) }
-    ensures succeeds { All (λ r. 0 < room_at queues.old r.object) requests.now → IsOk result }
-    ensures count { length queues.new ≡ length queues.old }
-{
-    for request in requests {
-        queues[request.object as usize].reserve(alloc, 1)?;
-    }
-    Ok(())
+/// The queues of a machine's objects, by number. Contracts see them as a list.
+#[derive(Drop)]
+pub(crate) struct Lines {
+    queues: Vec<Queue>,
 }
 
-/// Makes room for so many further requests in each queue.
-pub(crate) fn reserve_all(alloc: Global, queues: &mut [Queue], n: usize) -> Result<(), AllocError>
-    ensures lines { (o : ℕ) → line queues.new o ≡ line queues.old o }
-    ensures rooms { (o : ℕ) → room_at queues.old o ≤ room_at queues.new o }
-    ensures ok { OnOk result ((o : ℕ) → o < length queues.new → n ≤ room_at queues.new o) }
-    ensures count { length queues.new ≡ length queues.old }
-{
-    for i in 0..queues.len() {
-        queues[i].reserve(alloc, n)?;
-    }
-    Ok(())
+impl Model for Lines {
+    ghost use Rattle.std.specs.Prelude.{List};
+    ghost use Rattle.pooma_queue.specs.Requests.{Waiting};
+
+    ghost Value = { List Waiting };
+
+    ghost view = { λ l. l.queues.items };
 }
 
-/// Puts an entry's requests behind those of the earlier entries.
-pub(crate) fn enter(alloc: Global, queues: &mut [Queue], entry: u32, requests: &[Request])
-    requires objects { All (λ r. r.object < length queues.old) requests.now }
-    requires form { IsRequestList requests.now }
-    requires later { (o : ℕ) → All (λ asked. asked.entry < entry) (line queues.old o) }
-    requires room { All (λ r. 0 < room_at queues.old r.object) requests.now }
-    ensures lines { (o : ℕ) → line queues.new o ≡ line queues.old o ++ asked_at entry requests.now o }
-    ensures rooms { (o : ℕ) → room_at queues.old o ≤ room_at queues.new o + 1 }
-    ensures count { length queues.new ≡ length queues.old }
-{
-    for request in requests {
-        let _ = queues[request.object as usize].push(alloc, entry, request.mode);
+impl Lines {
+    /// So many queues with no requests.
+    pub(crate) fn new(alloc: Global, objects: usize) -> Result<Lines, AllocError>
+        ensures count { IfOk result (λ lines. length lines ≡ objects) }
+        ensures empty { IfOk result (λ lines. All (λ queue. queue.requests ≡ []) lines) }
+    {
+        let mut queues = Vec::new(alloc);
+        for _ in 0..objects {
+            queues.push(Queue::new(alloc))?;
+        }
+        Ok(Lines { queues })
     }
-}
 
-/// Marks an entry's requests as released.
-pub(crate) fn let_go(queues: &mut [Queue], entry: u32, requests: &[Request])
-    requires objects { All (λ r. r.object < length queues.old) requests.now }
-    requires form { IsRequestList requests.now }
-    ensures lines { (o : ℕ) → line queues.new o ≡ line_after entry requests.now o (line queues.old o) }
-    ensures rooms { (o : ℕ) → room_at queues.new o ≡ room_at queues.old o }
-    ensures count { length queues.new ≡ length queues.old }
-{
-    for request in requests {
-        queues[request.object as usize].release_entry(entry);
+    /// Makes room for so many further requests in each queue.
+    pub(crate) fn reserve(&mut self, alloc: Global, n: usize) -> Result<(), AllocError>
+        ensures lines { (o : ℕ) → line self.new o ≡ line self.old o }
+        ensures rooms { (o : ℕ) → room_at self.old o ≤ room_at self.new o }
+        ensures ok { OnOk result ((o : ℕ) → o < length self.new → n ≤ room_at self.new o) }
+        ensures count { length self.new ≡ length self.old }
+    {
+        for i in 0..self.queues.len() {
+            self.queues[i].reserve(alloc, n)?;
+        }
+        Ok(())
     }
-}
 
-/// The least earlier entry that holds this one back, and the first object over which it does.
-pub(crate) fn held(queues: &[Queue], entry: u32, requests: &[Request]) -> Option<Holder>
-    requires { All (λ r. r.object < length queues.now) requests.now }
-    ensures { result ≡ held_by queues.now entry requests.now }
-{
-    let mut found = None;
-    for request in requests {
-        let holder = queues[request.object as usize].holder(entry, request.mode);
-        found = lesser(found, request.object, holder);
+    /// Makes room for one further request in the queue of each object that is asked for.
+    pub(crate) fn make_room(
+        &mut self,
+        alloc: Global,
+        requests: &[Request],
+    ) -> Result<(), AllocError>
+        requires { All (λ r. r.object < length self.old) requests.now }
+        ensures lines { (o : ℕ) → line self.new o ≡ line self.old o }
+        ensures rooms { (o : ℕ) → room_at self.old o ≤ room_at self.new o }
+        ensures ok { OnOk result (All (λ r. 0 < room_at self.new r.object) requests.now) }
+        ensures succeeds { All (λ r. 0 < room_at self.old r.object) requests.now → IsOk result }
+        ensures count { length self.new ≡ length self.old }
+    {
+        for request in requests {
+            self.queues[request.object as usize].reserve(alloc, 1)?;
+        }
+        Ok(())
     }
-    found
+
+    /// Puts an entry's requests behind those of the earlier entries.
+    pub(crate) fn enter(&mut self, alloc: Global, entry: u32, requests: &[Request])
+        requires objects { All (λ r. r.object < length self.old) requests.now }
+        requires form { IsRequestList requests.now }
+        requires later { (o : ℕ) → All (λ asked. asked.entry < entry) (line self.old o) }
+        requires room { All (λ r. 0 < room_at self.old r.object) requests.now }
+        ensures lines { (o : ℕ) → line self.new o ≡ line self.old o ++ asked_at entry requests.now o }
+        ensures rooms { (o : ℕ) → room_at self.old o ≤ room_at self.new o + 1 }
+        ensures count { length self.new ≡ length self.old }
+    {
+        for request in requests {
+            let _ = self.queues[request.object as usize].push(alloc, entry, request.mode);
+        }
+    }
+
+    /// Marks an entry's requests as released.
+    pub(crate) fn let_go(&mut self, entry: u32, requests: &[Request])
+        requires objects { All (λ r. r.object < length self.old) requests.now }
+        requires form { IsRequestList requests.now }
+        ensures lines { (o : ℕ) → line self.new o ≡ line_after entry requests.now o (line self.old o) }
+        ensures rooms { (o : ℕ) → room_at self.new o ≡ room_at self.old o }
+        ensures count { length self.new ≡ length self.old }
+    {
+        for request in requests {
+            self.queues[request.object as usize].release_entry(entry);
+        }
+    }
+
+    /// The least earlier entry that holds this one back, and the first object over which it does.
+    pub(crate) fn held(&self, entry: u32, requests: &[Request]) -> Option<Holder>
+        requires { All (λ r. r.object < length self.now) requests.now }
+        ensures { result ≡ held_by self.now entry requests.now }
+    {
+        let mut found = None;
+        for request in requests {
+            let holder = self.queues[request.object as usize].holder(entry, request.mode);
+            found = lesser(found, request.object, holder);
+        }
+        found
+    }
+
+    /// The front of an object's queue.
+    pub(crate) fn front(&self, object: u32) -> &[Asked]
+        requires { object < length self.now }
+        ensures { result.now ≡ front_of (line self.now object) }
+    {
+        self.queues[object as usize].front()
+    }
 }
 
 fn lesser(found: Option<Holder>, object: u32, holder: Option<u32>) -> Option<Holder>

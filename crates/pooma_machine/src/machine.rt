@@ -1,19 +1,17 @@
-ghost use Rattle.std.specs.Option.{ForSome};
-ghost use Rattle.pooma_machine.specs.declared.slot.Slot.{Slot};
-ghost use Rattle.std.specs.Prelude.{◌≡◌, ◌↔◌, ◌+◌, ◌-◌, ◌^◌, ◌<◌, ◌≤◌, ℕ, List, [], ◌∷◌, ◌++◌, Some, None, Ok, Err, slice_get, All, IfOk, OnOk, OnErr, IfErr, IsOk, IsTrue, IfSome, MatchOption, IsOkUnless, IsSome, is_some, length, map, filter_map, option_map, option_and_then, option_copied, vec_len, vec_capacity};
+ghost use Rattle.std.specs.Prelude.{◌≡◌, ◌↔◌, ◌+◌, ◌-◌, ◌^◌, ◌<◌, ◌≤◌, ℕ, [], ◌∷◌, ◌++◌, Err, slice_get, Some, All, IfOk, OnOk, OnErr, IfErr, IsOk, IsTrue, IfSome, MatchOption, IsOkUnless, is_some, length, map, option_copied};
 ghost use Rattle.std.specs.Arc.{arc_value};
 ghost use Rattle.pooma_machine.specs.Steps.{NoneOut, IsLeastUnreleased, IsLeastReady, IsReady, IsHeldBack, IsDispatchedAt, IsLegal, is_out, is_released, status_of, event_of};
-ghost use Rattle.pooma_machine.specs.Values.{asks_of, values, read_objects, written_object, is_write, IsComplete};
-ghost use Rattle.pooma_machine.specs.Slots.{contents, content_at, content_in, PutBack};
+ghost use Rattle.pooma_machine.specs.Values.{asks_of, values, IsComplete};
+ghost use Rattle.pooma_machine.specs.Slots.{contents};
 ghost use Rattle.pooma_machine.specs.Became.{TellsReady};
 
 use crate::became::Became;
 use crate::loan::{Done, Loan};
-use crate::slot::{Slot, share, take};
-use crate::step::{Event, Request};
-use crate::table::{Refusal, Table};
+use crate::objects::Objects;
+use crate::refusal::DispatchError;
+use crate::step::Event;
+use crate::table::Table;
 use crate::work::Work;
-use pooma_queue::Mode;
 use std::alloc::{AllocError, Global};
 use std::marker::Model;
 use std::snapshot::Snapshot;
@@ -27,7 +25,7 @@ use std::sync::Arc;
 #[derive(Drop)]
 pub struct Machine<W: Work> {
     table: Table<W>,
-    slots: Vec<Slot<W::Value>>,
+    objects: Objects<W>,
     outcomes: Vec<Option<W::Outcome>>,
     opening: Snapshot<Vec<Arc<W::Value>>>,
 }
@@ -42,31 +40,12 @@ impl<W: Work> Model for Machine<W> {
 
     ghost view = { λ m. record { plan = m.table.plan; opening = contents W.content m.opening.value.items; history = m.table.history; spare = m.table.spare } };
 
-    ghost invariant = { λ m. Matches W.meaning W.content m.table.plan (contents W.content m.opening.value.items) m.table.history m.slots.items m.outcomes.items × (m.table.objects ≡ length m.slots.items) × (length m.table.plan + m.table.spare ≤ vec_capacity m.outcomes) };
-}
-
-/// Why an entry was not dispatched.
-#[derive(Clone, Copy, Debug, PartialEq, Eq)]
-pub enum DispatchError {
-    /// It was dispatched before, at this seat.
-    Already {
-        /// The seat of that dispatch.
-        seat: u32,
-    },
-    /// An earlier entry holds it back.
-    NotReady {
-        /// The first object over which the two conflict.
-        object: u32,
-        /// The least entry that holds it back.
-        by: u32,
-    },
-    /// There was no memory for its loan.
-    OutOfMemory,
+    ghost invariant = { λ m. Matches W.meaning m.table.plan (contents W.content m.opening.value.items) m.table.history m.objects m.outcomes.items × (m.table.objects ≡ length m.objects) × (length m.table.plan + m.table.spare ≤ vec_capacity m.outcomes) };
 }
 
 impl<W: Work> Machine<W> {
     ghost use Rattle.pooma_machine.specs.declared.step.EventKind.TheVariants as kind;
-    ghost use Rattle.pooma_machine.specs.declared.machine.DispatchError.{DispatchError};
+    ghost use Rattle.pooma_machine.specs.declared.refusal.DispatchError.{DispatchError};
     ghost use Rattle.pooma_machine.specs.Machine.{FitsShapes};
     ghost use Rattle.pooma_machine.specs.Causes.{Explains};
 
@@ -84,13 +63,9 @@ impl<W: Work> Machine<W> {
             Ok(table) => table,
             Err(_) => return Err(objects),
         };
-        let slots = match Vec::with_capacity(alloc, objects.len()) {
-            Ok(slots) => slots,
-            Err(_) => return Err(objects),
-        };
         Ok(Machine {
             table,
-            slots: shared(slots, objects),
+            objects: Objects::new(alloc, objects)?,
             outcomes: Vec::new(alloc),
             opening,
         })
@@ -101,16 +76,7 @@ impl<W: Work> Machine<W> {
         requires { IsComplete self.plan self.history }
         ensures { IfOk result (λ objects. contents W.content objects.items ≡ (values W.meaning self.plan self.opening self.history).objects) }
     {
-        let Machine {
-            table,
-            slots,
-            outcomes,
-            opening,
-        } = self;
-        drop(table);
-        drop(outcomes);
-        drop(opening);
-        brought_home::<W>(alloc, slots)
+        self.objects.into_values(alloc)
     }
 
     /// Makes spare room for at least so many further entries. It takes room for a request of each in the queue of each
@@ -141,9 +107,9 @@ impl<W: Work> Machine<W> {
         ensures err { OnErr result (self.new ≡ self.old) }
         ensures given_back { IfErr result (λ given. arc_value given ≡ arc_value work) }
     {
-        if self.outcomes.reserve(1).is_err() {
+        let Ok(()) = self.outcomes.reserve(1) else {
             return Err(work);
-        }
+        };
         let entry = self.table.request(alloc, seat, work)?;
         self.outcomes.push_reserved(None);
         Ok(entry)
@@ -179,27 +145,15 @@ impl<W: Work> Machine<W> {
         ensures work { IfOk result (λ loan. slice_get self.old.plan j ≡ Some loan.work) }
         ensures lent { IfOk result (λ loan. loan.lent ≡ (values W.meaning self.new.plan self.new.opening self.new.history).lent j) }
     {
-        match self.table.check(j) {
-            Err(Refusal::Already(seat)) => return Err(DispatchError::Already { seat }),
-            Err(Refusal::NotReady(object, by)) => {
-                return Err(DispatchError::NotReady { object, by });
-            }
-            Ok(()) => {}
-        }
-        let work = match self.table.share_work(j) {
-            Ok(work) => work,
-            Err(_) => return Err(DispatchError::OutOfMemory),
+        self.table.check(j)?;
+        let Ok(work) = self.table.share_work(j) else {
+            return Err(DispatchError::OutOfMemory);
         };
-        let reads = match lend_reads::<W>(alloc, &mut self.slots, work.requests()) {
-            Ok(reads) => reads,
-            Err(_) => return Err(DispatchError::OutOfMemory),
-        };
-        let written = match lend_written::<W>(alloc, &mut self.slots, written(work.requests())) {
-            Ok(written) => written,
-            Err(_) => return Err(DispatchError::OutOfMemory),
+        let Ok(loan) = self.objects.lend(alloc, j, work) else {
+            return Err(DispatchError::OutOfMemory);
         };
         self.table.dispatch(seat, j);
-        Ok(Loan::new(j, work, written, reads))
+        Ok(loan)
     }
 
     /// Takes back what this machine lent to an entry that is out: the object that its work writes has the new value, and the
@@ -217,7 +171,7 @@ impl<W: Work> Machine<W> {
         let j = done.entry();
         let (work, value, outcome) = done.kept();
         let became = self.table.release(seat, j);
-        give_back::<W>(&mut self.slots, written(work.requests()), value);
+        self.objects.give_back(work.requests(), value);
         self.outcomes[j as usize] = Some(outcome);
         became
     }
@@ -274,108 +228,4 @@ impl<W: Work> Machine<W> {
     {
         self.outcomes.get(j as usize)?.as_ref()
     }
-}
-
-// The object that the requests ask to write.
-fn written(requests: &[Request]) -> Option<u32>
-    ensures { result ≡ written_object requests.now }
-{
-    requests
-        .iter()
-        .find(|request| is_write(request.mode))
-        .map(|request| request.object)
-}
-
-fn is_write(mode: Mode) -> bool
-    ensures { result ≡ is_write mode }
-{
-    match mode {
-        Mode::Read => false,
-        Mode::Write => true,
-    }
-}
-
-// Shares the values of the objects that the requests ask to read. No value changes, also where memory is short.
-fn lend_reads<W: Work>(
-    alloc: Global,
-    slots: &mut [Slot<W::Value>],
-    requests: &[Request],
-) -> Result<Vec<Arc<W::Value>>, AllocError>
-    requires objects { All (λ r. r.object < length slots.old) requests.now }
-    requires home { All (λ r. IsSome (content_at W.content slots.old r.object)) requests.now }
-    ensures count { length slots.new ≡ length slots.old }
-    ensures same { (o : ℕ) → content_at W.content slots.new o ≡ content_at W.content slots.old o }
-    ensures ok { IfOk result (λ reads. contents W.content reads.items ≡ filter_map (content_at W.content slots.old) (read_objects requests.now)) }
-{
-    let mut reads = Vec::new(alloc);
-    for request in requests {
-        if !is_write(request.mode) {
-            let arc = share::<W>(alloc, &mut slots[request.object as usize])?;
-            reads.push(arc)?;
-        }
-    }
-    Ok(reads)
-}
-
-// Takes the value of this object, if there is one. After want of memory no value has changed.
-fn lend_written<W: Work>(
-    alloc: Global,
-    slots: &mut [Slot<W::Value>],
-    object: Option<u32>,
-) -> Result<Option<W::Value>, AllocError>
-    requires there { ForSome object (λ o. o < length slots.old) }
-    requires home { ForSome object (λ o. IsSome (content_at W.content slots.old o)) }
-    ensures count { length slots.new ≡ length slots.old }
-    ensures others { (o : ℕ) → (object ≡ Some o → ⊥) → content_at W.content slots.new o ≡ content_at W.content slots.old o }
-    ensures ok { IfOk result (λ written. option_map W.content written ≡ option_and_then (content_at W.content slots.old) object) }
-    ensures ready { IfOk result (λ written. IfSome written (λ value. IsTrue (W.ready value))) }
-    ensures away { OnOk result ((o : ℕ) → object ≡ Some o → content_at W.content slots.new o ≡ None) }
-    ensures err { OnErr result ((o : ℕ) → content_at W.content slots.new o ≡ content_at W.content slots.old o) }
-{
-    match object {
-        None => Ok(None),
-        Some(object) => Ok(Some(take::<W>(alloc, &mut slots[object as usize])?)),
-    }
-}
-
-// Puts the value back to this object, if there are both.
-fn give_back<W: Work>(slots: &mut [Slot<W::Value>], object: Option<u32>, value: Option<W::Value>)
-    requires { ForSome object (λ o. o < length slots.old) }
-    ensures { PutBack W.content slots.old slots.new object (option_map W.content value) }
-{
-    match (object, value) {
-        (Some(object), Some(value)) => slots[object as usize] = Slot::Owned(value),
-        (_, _) => {}
-    }
-}
-
-// The objects' values, each where others may share it.
-fn shared<V: Drop>(mut slots: Vec<Slot<V>>, objects: Vec<Arc<V>>) -> Vec<Slot<V>>
-    requires empty { slots.items ≡ [] }
-    requires room { length objects.items ≤ vec_capacity slots }
-    ensures { result.items ≡ map (λ arc. Slot.Shared arc) objects.items }
-{
-    for arc in objects {
-        slots.push_reserved(Slot::Shared(arc));
-    }
-    slots
-}
-
-// The objects' values, none of which is away.
-fn brought_home<W: Work>(
-    alloc: Global,
-    slots: Vec<Slot<W::Value>>,
-) -> Result<Vec<Arc<W::Value>>, AllocError>
-    requires { All (λ slot. IsSome (content_in W.content slot)) slots.items }
-    ensures { IfOk result (λ objects. map (content_in W.content) slots.items ≡ map (λ arc. Some (W.content (arc_value arc))) objects.items) }
-{
-    let mut objects = Vec::new(alloc);
-    for slot in slots {
-        match slot {
-            Slot::Shared(arc) => objects.push(arc)?,
-            Slot::Owned(value) => objects.push(Arc::new(alloc, value)?)?,
-            Slot::Away => unreachable!(),
-        }
-    }
-    Ok(objects)
 }

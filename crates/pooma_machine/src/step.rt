@@ -43,8 +43,9 @@ pub enum Status {
 }
 
 impl Status {
-    ghost use Rattle.std.specs.Prelude.{◌≡◌, Some, IfSome};
-    ghost use Rattle.pooma_machine.specs.Steps.{is_released, is_out, seat_of};
+    ghost use Rattle.std.specs.Prelude.{◌≡◌, ℕ, Some};
+    ghost use Rattle.pooma_machine.specs.Steps.{is_released, next, seat_of};
+    ghost use Rattle.pooma_machine.specs.declared.step.EventKind.TheVariants as kind;
 
     /// Whether the entry was released.
     pub(crate) fn is_released(&self) -> bool
@@ -53,21 +54,22 @@ impl Status {
         matches!(self, Status::Released(_))
     }
 
-    /// The seat of its dispatch, if the entry was dispatched.
-    pub(crate) fn seat(&self) -> u32
-        ensures { IfSome (seat_of (Some self.now)) (λ seat. result ≡ seat) }
+    /// The seat of the entry's dispatch, if it was dispatched.
+    pub(crate) fn seat(&self) -> Option<u32>
+        ensures { result ≡ seat_of (Some self.now) }
     {
         match self {
-            Status::Waiting => 0,
-            Status::Out(seat) => *seat,
-            Status::Released(seat) => *seat,
+            Status::Waiting => None,
+            Status::Out(seat) | Status::Released(seat) => Some(*seat),
         }
     }
 
-    /// Whether it was dispatched, and not released yet.
-    pub(crate) fn is_out(&self) -> bool
-        ensures { result ≡ is_out (Some self.now) }
+    /// Marks an entry that is out as released.
+    pub(crate) fn release(&mut self)
+        ensures { (seat : ℕ) → Some self.new ≡ next kind.Release seat (Some self.old) }
     {
-        matches!(self, Status::Out(_))
+        if let Status::Out(seat) = *self {
+            *self = Status::Released(seat);
+        }
     }
 }

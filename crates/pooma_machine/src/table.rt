@@ -1,15 +1,16 @@
 ghost use Rattle.std.specs.Prelude.{◌≡◌, ◌↔◌, ◌⊎◌, ◌+◌, ◌-◌, ◌*◌, ◌^◌, ◌<◌, ◌≤◌, ℕ, List, [], ◌∷◌, ◌++◌, Some, None, slice_get, All, IfOk, OnOk, OnErr, IsOk, IfErr, IsTrue, IfSome, MatchOption, length, vec_len, vec_capacity};
 ghost use Rattle.std.specs.Arc.{arc_value};
-ghost use Rattle.pooma_machine.specs.Steps.{IsLeastUnreleased, IsLeastReady, IsReady, IsHeldBack, IsDispatchedAt, IsLegal, AsksFor, is_out, status_of, event_of};
+ghost use Rattle.pooma_machine.specs.Steps.{IsRequestList, IsLeastUnreleased, IsLeastReady, IsReady, IsHeldBack, IsDispatchedAt, IsLegal, AsksFor, is_out, status_of, event_of};
 ghost use Rattle.pooma_machine.specs.Values.{asks_of, IsComplete};
-ghost use Rattle.pooma_machine.specs.Kept.{IsSound, Schedule, first_open};
+ghost use Rattle.pooma_machine.specs.Kept.{Schedule, first_open};
 ghost use Rattle.pooma_machine.specs.Became.{IsListOf, IsFreed, IsFreedBy, IsFreedOver, Names, Notes, TellsReady};
 
 use crate::became::Became;
-use crate::lines::{enter, held, let_go, make_room, reserve_all};
+use crate::lines::{Holder, Lines};
+use crate::refusal::DispatchError;
 use crate::step::{Event, EventKind, Request, Status};
 use crate::work::Work;
-use pooma_queue::{Asked, Mode, Queue};
+use pooma_queue::{Asked, Mode};
 use std::alloc::{AllocError, Global};
 use std::marker::Model;
 use std::sync::Arc;
@@ -19,7 +20,7 @@ use std::sync::Arc;
 pub(crate) struct Table<W: Work> {
     works: Vec<Arc<W>>,
     statuses: Vec<Status>,
-    queues: Vec<Queue>,
+    lines: Lines,
     history: Vec<Event>,
     // The least entry that was not released, so that no call walks over those before it.
     first: usize,
@@ -34,31 +35,26 @@ impl<W: Work> Model for Table<W> {
 
     ghost Value = { Schedule W };
 
-    ghost view = { λ t. record { plan = map arc_value t.works.items; history = t.history.items; objects = length t.queues.items; spare = t.spare } };
+    ghost view = { λ t. record { plan = map arc_value t.works.items; history = t.history.items; objects = length t.lines; spare = t.spare } };
 
-    ghost invariant = { λ t. IsKept (asks_of W.meaning (map arc_value t.works.items)) t.history.items t.statuses.items t.queues.items × HasRoom (length t.works.items) (length t.history.items) t.statuses.items t.queues.items t.spare (vec_capacity t.works) (vec_capacity t.statuses) (vec_capacity t.history) × (length t.works.items < 2 ^ 32) × (t.first ≡ first_open t.statuses.items) };
-}
-
-// Why an entry can't be dispatched.
-#[derive(Clone, Copy)]
-pub(crate) enum Refusal {
-    Already(u32),
-    NotReady(u32, u32),
+    ghost invariant = { λ t. IsKept (asks_of W.meaning (map arc_value t.works.items)) t.history.items t.statuses.items t.lines × HasRoom (length t.works.items) (length t.history.items) t.statuses.items t.lines t.spare (vec_capacity t.works) (vec_capacity t.statuses) (vec_capacity t.history) × (length t.works.items < 2 ^ 32) × (t.first ≡ first_open t.statuses.items) };
 }
 
 impl<W: Work> Table<W> {
     ghost use Rattle.pooma_machine.specs.declared.step.EventKind.TheVariants as kind;
-    ghost use Rattle.pooma_machine.specs.Refusals.{Refuses};
+    ghost use Rattle.pooma_machine.specs.Causes.{Explains};
 
     /// A table of no entries over so many objects.
     pub(crate) fn new(alloc: Global, objects: usize) -> Result<Table<W>, AllocError>
-        ensures empty { IfOk result (λ table. (table.plan ≡ []) × (table.history ≡ []) × (table.objects ≡ objects) × (table.spare ≡ 0)) }
-        ensures sound { IfOk result (λ table. IsSound (asks_of W.meaning table.plan) table.history) }
+        ensures plan { IfOk result (λ table. table.plan ≡ []) }
+        ensures history { IfOk result (λ table. table.history ≡ []) }
+        ensures objects { IfOk result (λ table. table.objects ≡ objects) }
+        ensures spare { IfOk result (λ table. table.spare ≡ 0) }
     {
         Ok(Table {
             works: Vec::new(alloc),
             statuses: Vec::new(alloc),
-            queues: empty_queues(alloc, objects)?,
+            lines: Lines::new(alloc, objects)?,
             history: Vec::new(alloc),
             first: 0,
             spare: 0,
@@ -79,10 +75,8 @@ impl<W: Work> Table<W> {
         self.statuses.reserve(n)?;
         let events = 3 * (self.works.len() + n);
         self.history.reserve(events - self.history.len())?;
-        reserve_all(alloc, &mut self.queues, n)?;
-        if self.spare < entries {
-            self.spare = entries;
-        }
+        self.lines.reserve(alloc, n)?;
+        self.spare = self.spare.max(entries);
         Ok(())
     }
 
@@ -123,23 +117,28 @@ impl<W: Work> Table<W> {
         requires objects { All (λ r. r.object < self.old.objects) (W.meaning.requests (arc_value work)) }
         requires fewer { length self.old.plan + 1 < 2 ^ 32 }
         ensures entry { IfOk result (λ entry. entry ≡ length self.old.plan) }
+        ensures form { OnOk result (IsRequestList (W.meaning.requests (arc_value work))) }
         ensures plan { OnOk result (self.new.plan ≡ self.old.plan ++ arc_value work ∷ []) }
         ensures history { OnOk result (self.new.history ≡ self.old.history ++ event_of kind.Request (length self.old.plan) seat ∷ []) }
-        ensures sound { OnOk result (IsSound (asks_of W.meaning self.new.plan) self.new.history) }
         ensures objects { self.new.objects ≡ self.old.objects }
         ensures spare { OnOk result (self.new.spare ≡ self.old.spare - 1) }
         ensures succeeds { 0 < self.old.spare → IsOk result }
         ensures err { OnErr result (self.new ≡ self.old) }
         ensures given_back { IfErr result (λ given. arc_value given ≡ arc_value work) }
     {
-        if room_for(alloc, &mut self.works, &mut self.statuses, &mut self.history).is_err() {
+        let Ok(()) = room_for(
+            alloc,
+            &mut self.works,
+            &mut self.statuses,
+            &mut self.history,
+        ) else {
             return Err(work);
-        }
-        if make_room(alloc, &mut self.queues, work.requests()).is_err() {
+        };
+        let Ok(()) = self.lines.make_room(alloc, work.requests()) else {
             return Err(work);
-        }
+        };
         let entry = self.works.len() as u32;
-        enter(alloc, &mut self.queues, entry, work.requests());
+        self.lines.enter(alloc, entry, work.requests());
         self.works.push_reserved(work);
         self.statuses.push_reserved(Status::Waiting);
         self.history.push_reserved(Event {
@@ -178,18 +177,18 @@ impl<W: Work> Table<W> {
     }
 
     /// Whether the entry may be dispatched, and why not.
-    pub(crate) fn check(&self, j: u32) -> Result<(), Refusal>
+    pub(crate) fn check(&self, j: u32) -> Result<(), DispatchError>
         requires { j < length self.now.plan }
         ensures ready { OnOk result (IsReady (asks_of W.meaning self.now.plan) self.now.history j) }
-        ensures refused { IfErr result (Refuses (asks_of W.meaning self.now.plan) self.now.history j) }
+        ensures succeeds { IsReady (asks_of W.meaning self.now.plan) self.now.history j → IsOk result }
+        ensures refused { IfErr result (Explains (asks_of W.meaning self.now.plan) self.now.history j) }
     {
-        match self.statuses[j as usize] {
-            Status::Out(seat) => Err(Refusal::Already(seat)),
-            Status::Released(seat) => Err(Refusal::Already(seat)),
-            Status::Waiting => match held(&self.queues, j, self.works[j as usize].requests()) {
-                Some(holder) => Err(Refusal::NotReady(holder.object, holder.by)),
-                None => Ok(()),
-            },
+        if let Some(seat) = self.statuses[j as usize].seat() {
+            return Err(DispatchError::Already { seat });
+        }
+        match self.lines.held(j, self.works[j as usize].requests()) {
+            Some(Holder { object, by }) => Err(DispatchError::NotReady { object, by }),
+            None => Ok(()),
         }
     }
 
@@ -201,7 +200,6 @@ impl<W: Work> Table<W> {
         ensures objects { self.new.objects ≡ self.old.objects }
         ensures spare { self.new.spare ≡ self.old.spare }
         ensures history { self.new.history ≡ self.old.history ++ event_of kind.Dispatch j seat ∷ [] }
-        ensures sound { IsSound (asks_of W.meaning self.new.plan) self.new.history }
     {
         self.statuses[j as usize] = Status::Out(seat);
         self.history.push_reserved(Event {
@@ -219,7 +217,6 @@ impl<W: Work> Table<W> {
         ensures objects { self.new.objects ≡ self.old.objects }
         ensures spare { self.new.spare ≡ self.old.spare }
         ensures history { self.new.history ≡ self.old.history ++ event_of kind.Release j seat ∷ [] }
-        ensures sound { IsSound (asks_of W.meaning self.new.plan) self.new.history }
         ensures became { TellsReady (asks_of W.meaning self.old.plan) self.old.history self.new.history result }
     {
         self.mark_released(seat, j);
@@ -243,7 +240,7 @@ impl<W: Work> Table<W> {
         requires { AsksFor (asks_of W.meaning self.now.plan) j request.object request.mode }
         ensures { Notes (IsFreedOver (asks_of W.meaning self.now.plan) self.now.history j request.object) became.old became.new }
     {
-        for asked in self.queues[request.object as usize].front() {
+        for asked in self.lines.front(request.object) {
             if self.is_freed(j, request.mode, *asked) {
                 became.note(asked.entry);
             }
@@ -266,11 +263,9 @@ impl<W: Work> Table<W> {
         ensures objects { self.new.objects ≡ self.old.objects }
         ensures spare { self.new.spare ≡ self.old.spare }
         ensures history { self.new.history ≡ self.old.history ++ event_of kind.Release j seat ∷ [] }
-        ensures sound { IsSound (asks_of W.meaning self.new.plan) self.new.history }
     {
-        let at = self.statuses[j as usize].seat();
-        let_go(&mut self.queues, j, self.works[j as usize].requests());
-        self.statuses[j as usize] = Status::Released(at);
+        self.lines.let_go(j, self.works[j as usize].requests());
+        self.statuses[j as usize].release();
         self.first = first_unreleased(&self.statuses, self.first);
         self.history.push_reserved(Event {
             kind: EventKind::Release,
@@ -290,18 +285,6 @@ fn first_unreleased(statuses: &[Status], from: usize) -> usize
         first += 1;
     }
     first
-}
-
-// So many queues with no requests.
-fn empty_queues(alloc: Global, objects: usize) -> Result<Vec<Queue>, AllocError>
-    ensures count { IfOk result (λ queues. length queues.items ≡ objects) }
-    ensures empty { IfOk result (λ queues. All (λ queue. queue.requests ≡ []) queues.items) }
-{
-    let mut queues = Vec::new(alloc);
-    for _ in 0..objects {
-        queues.push(Queue::new(alloc))?;
-    }
-    Ok(queues)
 }
 
 // Makes room for one further entry and all its events.

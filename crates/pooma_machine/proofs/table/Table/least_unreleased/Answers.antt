@@ -14,7 +14,7 @@ returns-then-self-len g c =
     let there = c.if-self-len.true in
     let len = c.len.ensures in
     let below : first_open c.self.inside.statuses.items < length c.self.inside.statuses.items = omega (arith, first, there, len, c.self.inside.statuses.ok.0) in
-    rw (← c.self.view_is, first) (open_least _ c.self.inside.history.items c.self.inside.statuses.items c.self.inside.queues.items (length (map arc_value c.self.inside.works.items)) c.self.invariant.0 (omega (arith, longs, works)) below)
+    rw (← c.self.view_is, first) (open_least _ c.self.inside.history.items c.self.inside.statuses.items c.self.inside.lines (length (map arc_value c.self.inside.works.items)) c.self.invariant.0 (omega (arith, longs, works)) below)
 
 pub returns-else-self-len : goal.returns-else-self-len
 returns-else-self-len g c =
@@ -24,4 +24,4 @@ returns-else-self-len g c =
     let past = c.if-self-len.false in
     let len = c.len.ensures in
     let above : length c.self.inside.statuses.items ≤ first_open c.self.inside.statuses.items = omega (arith, first, past, len, c.self.inside.statuses.ok.0) in
-    rw (← c.self.view_is) (λ j h. open_none _ c.self.inside.history.items c.self.inside.statuses.items c.self.inside.queues.items c.self.invariant.0 above j (omega (arith, longs, works, h)))
+    rw (← c.self.view_is) (λ j h. open_none _ c.self.inside.history.items c.self.inside.statuses.items c.self.inside.lines c.self.invariant.0 above j (omega (arith, longs, works, h)))

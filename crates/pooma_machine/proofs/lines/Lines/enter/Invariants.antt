@@ -1,0 +1,6 @@
+use Rattle.std.proofs.Common.{◌≡◌, length, take}
+use Rattle.pooma_machine.proofs.Queues.{Entered}
+use Rattle.pooma_machine.proofs.lines.Lines.enter.Given as goal
+
+abbrev pub invariant-loop-request : goal.invariant-loop-request
+invariant-loop-request l = (Entered l.fn.self l.self-inside.queues.items l.entry (take l.request-index l.requests)) × (length l.self-inside.queues.items ≡ length l.fn.self)

@@ -1,6 +1,0 @@
-use Rattle.std.proofs.Common.{◌≡◌, take}
-use Rattle.pooma_machine.specs.Lines.{held_by}
-use Rattle.pooma_machine.proofs.lines.held.Given as goal
-
-abbrev pub invariant-loop-request : goal.invariant-loop-request
-invariant-loop-request l = l.found ≡ held_by l.queues l.entry (take l.request-index l.requests)
