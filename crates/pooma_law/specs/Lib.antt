@@ -1,0 +1,3 @@
+pub mod Ser
+pub mod Writers
+pub mod Histories
