@@ -92,7 +92,7 @@ pub record Agrees {W X O S : Type 0} (m : Meaning W X O S) (plan : List W) (open
   pub unanswered : (j : ℕ) → is_released (status_of history j) ≡ false → (values m plan opening history).outcome j ≡ None
 
 module _ {W X O S : Type 0} (m : Meaning W X O S) (plan : List W) (opening : List X) where
-  values_more : (history : List Event) (event : Event) → values m plan opening (history ++ event ∷ []) ≡ values_after m plan (values m plan opening history) event
+  pub values_more : (history : List Event) (event : Event) → values m plan opening (history ++ event ∷ []) ≡ values_after m plan (values m plan opening history) event
   values_more history event = fold-append (values_after m plan) (opened opening) history (event ∷ [])
 
   agrees_none : Agrees m plan opening []

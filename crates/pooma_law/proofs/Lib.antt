@@ -5,3 +5,7 @@ pub mod Statuses
 pub mod Agreement
 pub mod Fronts
 pub mod Whole
+pub mod Growth
+pub mod Told
+pub mod Counts
+pub mod Stays

@@ -1,7 +1,7 @@
 -- What doing works one after another leaves at a place, and that it composes.
-use Rattle.std.proofs.Common.{◌≡◌, ◌<◌, ◌≤◌, ℕ, zero, suc, Bool, true, false, List, [], ◌∷◌, ◌++◌, map, length, take, drop, set, Option, Some, None, option_map, slice_get, fold, refl, sym, ◌∙◌, ap, subst, arith, inl, inr, append_assoc, append-nil, length-set, take-append-drop}
+use Rattle.std.proofs.Common.{◌≡◌, ◌<◌, ◌≤◌, ℕ, zero, suc, Bool, true, false, List, [], ◌∷◌, ◌++◌, map, length, take, drop, set, Option, Some, None, option_map, slice_get, All, fold, refl, sym, ◌∙◌, ap, subst, arith, inl, inr, append_assoc, append-nil, length-set, take-append-drop}
 use Rattle.std.proofs.lemmas.Bool.Decides.{eqb_tells, leb_tells}
-use Rattle.std.proofs.lemmas.List.{length-take-le}
+use Rattle.std.proofs.lemmas.List.{length-take-le, take_all}
 use Rattle.std.proofs.lemmas.List.Sums.{fold-append}
 use Rattle.std.proofs.lemmas.Option.{slice_get-map, get_or_from_slice_get, slice_get_within}
 use Rattle.pooma_machine.specs.declared.step.Request.{Request}
@@ -9,7 +9,7 @@ use Rattle.pooma_machine.specs.Steps.{requests_of}
 use Rattle.pooma_machine.specs.Values.{Meaning, lent_by, new_value_of, written_object, put_back, asks_of, is_write}
 use Rattle.pooma_law.specs.Ser.{Results, at_first, with_work, ser}
 use Rattle.pooma_law.specs.Writers.{asks_to_write}
-use Rattle.pooma_law.proofs.Places.{take_further, take_past, get_middle, get-set_own, get-set_other}
+use Rattle.pooma_law.proofs.Places.{there, take_further, take_past, get_middle, get-set_own, get-set_other}
 
 -- a value that is put back changes no other object, and its own alike in alike lists
 pub put_back_other : {X : Type 0} (objects : List X) (object : Option ℕ) (value : Option X) (o : ℕ) → (object ≡ Some o → ⊥) → slice_get (put_back objects object value) o ≡ slice_get objects o
@@ -133,3 +133,12 @@ module _ {W X O S : Type 0} (m : Meaning W X O S) (plan : List W) (opening : Lis
         | inl t ↦ left k o (free k t.1 (omega arith)) (slice_get plan k) refl ∙ unwritten o j k t.1 (λ i from below. free i from (omega arith))
         | inr f ↦ let e : j ≡ suc k = omega (arith, f.1) in rw e refl
       ]
+
+  -- an object that no work asks to write
+  pub untouched : (o : ℕ) → All (λ work. asks_to_write (m.requests work) o ≡ false) plan → slice_get (ser m plan opening).objects o ≡ slice_get opening o
+  untouched o none =
+      ap (λ p. slice_get (ser m p opening).objects o) (sym (take_all (length plan) plan (omega arith)))
+      ∙ unwritten o 0 (length plan) (omega arith) (λ i from within writes.
+      let work = there plan i within in
+      let free : asks_to_write (m.requests work.0) o ≡ false = subst (λ w. asks_to_write (m.requests w) o ≡ false) (get_or_from_slice_get plan i work.0 work.0 work.1) (none i work.0 within) in
+      absurd (cc (sym free ∙ (ap (λ rs. asks_to_write rs o) (sym (asks_at m plan i work.0 work.1)) ∙ writes))))
