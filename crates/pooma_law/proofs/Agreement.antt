@@ -10,16 +10,14 @@ use Rattle.pooma_machine.specs.declared.step.Event.{Event}
 use Rattle.pooma_machine.specs.declared.step.EventKind.{EventKind}
 use Rattle.pooma_machine.specs.declared.step.EventKind.TheVariants as kind
 use Rattle.pooma_machine.specs.declared.step.Status.{Status}
-use Rattle.pooma_machine.specs.declared.step.Status.TheVariants as status
-use Rattle.pooma_machine.specs.Steps.{next, requests_of, status_of, is_out, is_released, seat_of, event_of, NothingBlocks, MayCome, IsLegal}
+use Rattle.pooma_machine.specs.Steps.{next, requests_of, status_of, is_released, seat_of, event_of, NothingBlocks, MayCome, IsLegal}
 use Rattle.pooma_machine.specs.Values.{Meaning, Lent, Values, values, values_after, values_next, opened, lend, give_back, new_value_of, lent_by, written_object, put_back, with_at, asks_of}
 use Rattle.pooma_law.specs.Ser.{Results, ser}
 use Rattle.pooma_law.specs.Writers.{asks_to_write}
-use Rattle.pooma_law.specs.Histories.{WasDispatched}
 use Rattle.pooma_law.proofs.Places.{there, with_at_own, with_at_other}
 use Rattle.pooma_law.proofs.OneByOne.{put_back_other, put_back_same, written_asks, asks_at, ser_further, outcome_at, unwritten}
 use Rattle.pooma_law.proofs.Lending.{asks_contains, write_conflicts, lent_same}
-use Rattle.pooma_law.proofs.Statuses.{status_own, status_other, StandsBefore, stands_before, IsSteady, steady_none, steady_more, along}
+use Rattle.pooma_law.proofs.Statuses.{status_own, status_other, HasSeat, out_has_seat, released_has_seat, out_is_released, StandsBefore, stands_before, IsSteady, steady_none, steady_more, along}
 
 -- of the entries that ask to write the object, those below k were released and no others
 abbrev pub AreReleasedBelow : List (List Request) → List Event → ℕ → ℕ → Type 0
@@ -28,12 +26,6 @@ AreReleasedBelow plan history o k = (i : ℕ) → asks_to_write (requests_of pla
 pub not_true : (b : Bool) → (b ≡ true → ⊥) → b ≡ false
 not_true true never = absurd (never refl)
 not_true false never = refl
-
-pub released_was_dispatched : (now : Option Status) → is_released now ≡ true → is_some (seat_of now) ≡ true
-released_was_dispatched None e = absurd (cc e)
-released_was_dispatched (Some status.Waiting) e = absurd (cc e)
-released_was_dispatched (Some (status.Out at)) e = absurd (cc e)
-released_was_dispatched (Some (status.Released at)) e = refl
 
 -- where nothing blocks an entry that was not released, the released writers of what it asks for are those before it
 pub writers_before : (plan : List (List Request)) (history : List Event) (j : ℕ) → IsSteady plan history → is_released (status_of history j) ≡ false → NothingBlocks plan history j
@@ -52,7 +44,7 @@ writers_before plan history j steady open_still unblocked r asked i writes =
         let ne : j ≢ i = other.1 in
         let before : j < i = omega arith in
         absurd (cc (sym open_still
-        ∙ steady.passed i (released_was_dispatched (status_of history i) released) j before
+        ∙ steady.passed i (released_has_seat (status_of history i) released) j before
         (r.object, record { one = r.mode; other = Write; asks_one = asked; asks_other = asks_contains (requests_of plan i) r.object writes; conflicting = (write_conflicts r.mode).1 })))
 
 -- an event that is no release releases nothing
@@ -60,12 +52,6 @@ released_unless : (act : EventKind) (seat : ℕ) (old : Option Status) → (act 
 released_unless kind.Request seat old none stands = sym (ap is_released stands)
 released_unless kind.Dispatch seat old none stands = sym (ap is_released stands)
 released_unless kind.Release seat old none stands = absurd (none refl)
-
-out_is_released : (seat : ℕ) (old : Option Status) → is_out old ≡ true → (is_released (next kind.Release seat old) ≡ true) × (is_released old ≡ false) × (is_some (seat_of old) ≡ true)
-out_is_released seat None out = absurd (cc out)
-out_is_released seat (Some status.Waiting) out = absurd (cc out)
-out_is_released seat (Some (status.Out at)) out = (refl, refl, refl)
-out_is_released seat (Some (status.Released at)) out = absurd (cc out)
 
 module _ (plan : List (List Request)) (history : List Event) (act : EventKind) (j seat : ℕ) (steady : IsSteady plan history) (may : MayCome plan history (event_of act j seat)) where
   same_released : (act ≡ kind.Release → ⊥) → (i : ℕ) → is_released (status_of (history ++ event_of act j seat ∷ []) i) ≡ is_released (status_of history i)
@@ -77,7 +63,7 @@ module _ (plan : List (List Request)) (history : List Event) (act : EventKind) (
         | inr n ↦ ap is_released (status_other history act j seat i n.1)
       ]
 
-  same_dispatched : (i : ℕ) → j ≢ i → WasDispatched (history ++ event_of act j seat ∷ []) i → WasDispatched history i
+  same_dispatched : (i : ℕ) → j ≢ i → HasSeat (history ++ event_of act j seat ∷ []) i → HasSeat history i
   same_dispatched i ne dispatched = ap (λ s. is_some (seat_of s)) (sym (status_other history act j seat i ne)) ∙ dispatched
 
 -- what the values of a history have to do with doing the entries of the plan one after another
@@ -86,7 +72,7 @@ pub record Agrees {W X O S : Type 0} (m : Meaning W X O S) (plan : List W) (open
   -- an object has what the entries up to the last of its released writers leave
   pub objects : (o k : ℕ) → AreReleasedBelow (asks_of m plan) history o k → slice_get (values m plan opening history).objects o ≡ slice_get (ser m (take k plan) opening).objects o
   -- an entry was lent what the entries before it leave
-  pub lent : (j : ℕ) → WasDispatched history j → (values m plan opening history).lent j ≡ lent_by (ser m (take j plan) opening).objects (requests_of (asks_of m plan) j)
+  pub lent : (j : ℕ) → HasSeat history j → (values m plan opening history).lent j ≡ lent_by (ser m (take j plan) opening).objects (requests_of (asks_of m plan) j)
   -- an entry answered what it does when it comes in its turn
   pub outcomes : (j : ℕ) → is_released (status_of history j) ≡ true → (values m plan opening history).outcome j ≡ slice_get (ser m plan opening).outcomes j
   pub unanswered : (j : ℕ) → is_released (status_of history j) ≡ false → (values m plan opening history).outcome j ≡ None
@@ -118,7 +104,7 @@ module _ {W X O S : Type 0} (m : Meaning W X O S) (plan : List W) (opening : Lis
         lent = λ i dispatched.
             ap (λ (v : Values X O). v.lent i) same
             ∙ old.lent i (elim (eqb_tells j i) [
-              | inl t ↦ absurd (cc (sym (ap (λ s. is_some (seat_of s)) (status_own history kind.Request j seat)) ∙ subst (WasDispatched now) (sym t.1) dispatched))
+              | inl t ↦ absurd (cc (sym (ap (λ s. is_some (seat_of s)) (status_own history kind.Request j seat)) ∙ subst (HasSeat now) (sym t.1) dispatched))
               | inr n ↦ same_dispatched asks history kind.Request j seat old.steady may i n.1 dispatched
             ]);
         outcomes = λ i done. ap (λ (v : Values X O). v.outcome i) same ∙ old.outcomes i (sym (released i) ∙ done);
@@ -155,7 +141,7 @@ module _ {W X O S : Type 0} (m : Meaning W X O S) (plan : List W) (opening : Lis
   module _ (history : List Event) (j seat : ℕ) (work : W) (at : slice_get plan j ≡ Some work) (old : Agrees m plan opening history) (may : MayCome (asks_of m plan) history (event_of kind.Release j seat)) where
     lent_there : (values m plan opening history).lent j ≡ lent_by (ser m (take j plan) opening).objects (m.requests work)
     lent_there =
-        old.lent j (out_is_released seat (status_of history j) may.1).2
+        old.lent j (out_has_seat (status_of history j) may.1)
         ∙ ap (lent_by (ser m (take j plan) opening).objects) (asks_at m plan j work at)
 
     gives : values m plan opening (history ++ event_of kind.Release j seat ∷ []) ≡ give_back m j work (values m plan opening history)
@@ -175,7 +161,7 @@ module _ {W X O S : Type 0} (m : Meaning W X O S) (plan : List W) (opening : Lis
         let before = ser m (take j plan) opening in
         let object = written_object (m.requests work) in
         let front : AreReleasedBelow (asks_of m plan) history o j =
-        writers_before (asks_of m plan) history j old.steady (out_is_released seat (status_of history j) may.1).1 (old.steady.passed j (out_is_released seat (status_of history j) may.1).2)
+        writers_before (asks_of m plan) history j old.steady (out_is_released seat (status_of history j) may.1).1 (old.steady.passed j (out_has_seat (status_of history j) may.1))
         (record { object = o; mode = Write }) (asks_contains (requests_of (asks_of m plan) j) o writes) in
         let further : j < k = ltb-true j k (sym (below j writes) ∙ own_released) in
         put_back_same was.objects before.objects object (new_value_of m work (was.lent j)) o (old.objects o j front)
@@ -216,10 +202,10 @@ module _ {W X O S : Type 0} (m : Meaning W X O S) (plan : List W) (opening : Lis
           | inr n ↦ with_at_other was.outcome j i _ n.1 ∙ old.unanswered i (sym (other_released i n.1) ∙ undone)
         ]
 
-    lent_still : (i : ℕ) → WasDispatched (history ++ event_of kind.Release j seat ∷ []) i → (values m plan opening history).lent i ≡ lent_by (ser m (take i plan) opening).objects (requests_of (asks_of m plan) i)
+    lent_still : (i : ℕ) → HasSeat (history ++ event_of kind.Release j seat ∷ []) i → (values m plan opening history).lent i ≡ lent_by (ser m (take i plan) opening).objects (requests_of (asks_of m plan) i)
     lent_still i dispatched =
         old.lent i (elim (eqb_tells j i) [
-          | inl t ↦ subst (WasDispatched history) t.1 (out_is_released seat (status_of history j) may.1).2
+          | inl t ↦ subst (HasSeat history) t.1 (out_has_seat (status_of history j) may.1)
           | inr n ↦ same_dispatched (asks_of m plan) history kind.Release j seat old.steady may i n.1 dispatched
         ])
 

@@ -1,5 +1,5 @@
 -- A legal history has at most three events an entry, and three where it is complete.
-use Rattle.std.proofs.Common.{◌≡◌, ◌≢◌, ◌+◌, ◌*◌, ◌<◌, ◌≤◌, ℕ, zero, suc, true, false, List, [], ◌∷◌, ◌++◌, length, Option, Some, None, refl, sym, ◌∙◌, ap, subst, arith, inl, inr, length-append}
+use Rattle.std.proofs.Common.{◌≡◌, ◌≢◌, ◌+◌, ◌*◌, ◌<◌, ◌≤◌, ℕ, zero, suc, true, List, [], ◌∷◌, ◌++◌, length, Option, Some, None, refl, sym, ◌∙◌, ap, subst, arith, inl, inr, length-append}
 use Rattle.std.proofs.lemmas.Bool.Decides.{eqb_tells}
 use Rattle.pooma_machine.specs.declared.step.Request.{Request}
 use Rattle.pooma_machine.specs.declared.step.Event.{Event}
@@ -7,7 +7,7 @@ use Rattle.pooma_machine.specs.declared.step.EventKind.{EventKind}
 use Rattle.pooma_machine.specs.declared.step.EventKind.TheVariants as kind
 use Rattle.pooma_machine.specs.declared.step.Status.{Status}
 use Rattle.pooma_machine.specs.declared.step.Status.TheVariants as status
-use Rattle.pooma_machine.specs.Steps.{next, status_of, is_out, is_released, event_of, MayCome, IsLegal}
+use Rattle.pooma_machine.specs.Steps.{next, status_of, is_released, MayCome, IsLegal}
 use Rattle.pooma_law.proofs.Statuses.{IsSteady, StandsBefore, stands_before, status_own, status_other}
 use Rattle.pooma_law.proofs.Told.{along_steady}
 

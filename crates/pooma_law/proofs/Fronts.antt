@@ -11,8 +11,8 @@ use Rattle.pooma_machine.specs.declared.step.Event.{Event}
 use Rattle.pooma_machine.specs.Steps.{requests_of, status_of, is_released}
 use Rattle.pooma_law.specs.Writers.{asks_to_write, writers, released_writers, IsFront, up_to_last}
 use Rattle.pooma_law.proofs.Lending.{contains_first, contains_rest, asks_contains}
-use Rattle.pooma_law.proofs.Statuses.{IsSteady}
-use Rattle.pooma_law.proofs.Agreement.{AreReleasedBelow, not_true, released_was_dispatched}
+use Rattle.pooma_law.proofs.Statuses.{IsSteady, released_has_seat}
+use Rattle.pooma_law.proofs.Agreement.{AreReleasedBelow, not_true}
 
 contains_cases : (x : ℕ) (xs : List ℕ) (y : ℕ) → Contains (x ∷ xs) y → (y ≡ x) ⊎ Contains xs y
 contains_cases x xs y (zero, h, e) = inl (sym e)
@@ -133,7 +133,7 @@ writers_in_turn plan history o steady a b at bt before released =
     let test : ℕ → Bool = λ j. asks_to_write (requests_of plan j) o in
     let one = asks_contains (requests_of plan a) o (has_filter test (range_with_len 0 (length plan)) a at).1 in
     let other = asks_contains (requests_of plan b) o (has_filter test (range_with_len 0 (length plan)) b bt).1 in
-    steady.passed b (released_was_dispatched (status_of history b) released) a before
+    steady.passed b (released_has_seat (status_of history b) released) a before
     (o, record { one = Write; other = Write; asks_one = one; asks_other = other; conflicting = refl })
 
 pub released_in_front : (plan : List (List Request)) (history : List Event) (o : ℕ) → IsSteady plan history → IsFront (released_writers plan history o) (writers plan o)

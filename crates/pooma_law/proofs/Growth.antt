@@ -1,5 +1,5 @@
 -- Legal histories of a plan, as the history or the plan grows.
-use Rattle.std.proofs.Common.{◌≡◌, ◌≢◌, ◌+◌, ◌<◌, ◌≤◌, ℕ, zero, suc, true, false, min, List, [], ◌∷◌, ◌++◌, length, take, drop, Option, Some, None, is_some, slice_get, get_or-take, refl, sym, ◌∙◌, ap, subst, arith, inl, inr, length-append, length-take, take-append-drop, append_assoc, append-nil}
+use Rattle.std.proofs.Common.{◌≡◌, ◌+◌, ◌<◌, ◌≤◌, ℕ, suc, true, List, [], ◌∷◌, ◌++◌, length, take, drop, Some, None, slice_get, get_or-take, sym, ◌∙◌, ap, subst, arith, inl, inr, length-append, take-append-drop, append_assoc, append-nil}
 use Rattle.std.proofs.lemmas.Bool.Decides.{leb_tells}
 use Rattle.std.proofs.lemmas.List.{get_or_append_left, take-append-le, length-take-le}
 use Rattle.std.proofs.lemmas.List.Sums.{sum_by-append}
@@ -11,7 +11,7 @@ use Rattle.pooma_machine.specs.declared.step.EventKind.{EventKind}
 use Rattle.pooma_machine.specs.declared.step.EventKind.TheVariants as kind
 use Rattle.pooma_machine.specs.Steps.{requests_of, Conflict, status_of, issued, is_out, is_released, seat_of, event_of, Comes, MayCome, IsLegal}
 use Rattle.pooma_law.proofs.Places.{get_left, get_middle, take_further}
-use Rattle.pooma_law.proofs.Statuses.{IsSteady, steady_of, steady_more, seat_stays, released_stays}
+use Rattle.pooma_law.proofs.Statuses.{IsSteady, steady_of, seat_stays, released_stays}
 
 -- a front of a legal history is legal, and the event behind it may come
 pub legal_front : (plan : List (List Request)) (history later : List Event) → IsLegal plan (history ++ later) → IsLegal plan history

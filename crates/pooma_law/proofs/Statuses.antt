@@ -1,5 +1,5 @@
 -- What an event that may come makes of the statuses, and what holds of them after each legal history.
-use Rattle.std.proofs.Common.{◌≡◌, ◌≢◌, ◌+◌, ◌<◌, ◌≤◌, ℕ, zero, suc, true, false, List, [], ◌∷◌, ◌++◌, length, take, Option, Some, None, is_some, slice_get, refl, sym, ◌∙◌, ap, subst, arith, inl, inr, ◌==◌}
+use Rattle.std.proofs.Common.{◌≡◌, ◌≢◌, ◌+◌, ◌<◌, ◌≤◌, ℕ, zero, suc, true, false, List, [], ◌∷◌, ◌++◌, length, take, Option, Some, None, is_some, slice_get, refl, sym, ◌∙◌, ap, subst, arith, inl, inr, ◌⊎◌, ◌==◌}
 use Rattle.std.proofs.lemmas.Bool.Decides.{eqb_tells}
 use Rattle.std.proofs.Math.Seq.{take-length}
 use Rattle.std.proofs.lemmas.List.Sums.{fold-append, sum_by-append}
@@ -32,27 +32,65 @@ StandsBefore kind.Request old = old ≡ None
 StandsBefore kind.Dispatch old = old ≡ Some status.Waiting
 StandsBefore kind.Release old = is_out old ≡ true
 
--- which event may come, as the statuses alone tell it
+-- the entry has the seat of a dispatch
+abbrev pub HasSeat : List Event → ℕ → Type 0
+HasSeat history j = is_some (seat_of (status_of history j)) ≡ true
+
+-- so it is where it is out or was released, and nowhere else
+pub out_has_seat : (now : Option Status) → is_out now ≡ true → is_some (seat_of now) ≡ true
+out_has_seat None out = absurd (cc out)
+out_has_seat (Some status.Waiting) out = absurd (cc out)
+out_has_seat (Some (status.Out seat)) out = refl
+out_has_seat (Some (status.Released seat)) out = absurd (cc out)
+
+pub released_has_seat : (now : Option Status) → is_released now ≡ true → is_some (seat_of now) ≡ true
+released_has_seat None released = absurd (cc released)
+released_has_seat (Some status.Waiting) released = absurd (cc released)
+released_has_seat (Some (status.Out seat)) released = absurd (cc released)
+released_has_seat (Some (status.Released seat)) released = refl
+
+pub dispatched_has_seat : (history : List Event) (j : ℕ) → WasDispatched history j → HasSeat history j
+dispatched_has_seat history j (inl out) = out_has_seat (status_of history j) out
+dispatched_has_seat history j (inr released) = released_has_seat (status_of history j) released
+
+pub seat_of_dispatched : (history : List Event) (j : ℕ) → WasDispatched history j → (seat : ℕ) × (seat_of (status_of history j) ≡ Some seat)
+seat_of_dispatched history j dispatched = by (seat_of (status_of history j)) refl (dispatched_has_seat history j dispatched)
+  where
+    by : (seat : Option ℕ) → seat_of (status_of history j) ≡ seat → is_some (seat_of (status_of history j)) ≡ true → (seat : ℕ) × (seat_of (status_of history j) ≡ Some seat)
+    by None e some = absurd (cc (sym (ap is_some e) ∙ some))
+    by (Some seat) e some = (seat, e)
+
+pub dispatched_of_seat : (now : Option Status) (seat : ℕ) → seat_of now ≡ Some seat → (is_out now ≡ true) ⊎ (is_released now ≡ true)
+dispatched_of_seat None seat e = absurd (cc e)
+dispatched_of_seat (Some status.Waiting) seat e = absurd (cc e)
+dispatched_of_seat (Some (status.Out at)) seat e = inl refl
+dispatched_of_seat (Some (status.Released at)) seat e = inr refl
+
+-- what the statuses alone tell of which event may come
 pub record IsSteady (plan : List (List Request)) (history : List Event) : Type 0 where
   -- entries from the number issued on have no status, and no entry past the plan was issued
   pub fresh : (j : ℕ) → issued history ≤ j → status_of history j ≡ None
   pub within : issued history ≤ length plan
   -- nothing blocks an entry that was dispatched
-  pub passed : (j : ℕ) → WasDispatched history j → NothingBlocks plan history j
+  pub passed : (j : ℕ) → HasSeat history j → NothingBlocks plan history j
 
 pub stands_before : (plan : List (List Request)) (history : List Event) (kind : EventKind) (j seat : ℕ) → IsSteady plan history → MayCome plan history (event_of kind j seat) → StandsBefore kind (status_of history j)
 stands_before plan history kind.Request j seat steady may = steady.fresh j (let e : j ≡ issued history = may.1 in omega arith)
 stands_before plan history kind.Dispatch j seat steady may = may.1.0
 stands_before plan history kind.Release j seat steady may = may.1
 
+-- an entry that is out was not released before its release, and is after it
+pub out_is_released : (seat : ℕ) (old : Option Status) → is_out old ≡ true → (is_released (next kind.Release seat old) ≡ true) × (is_released old ≡ false)
+out_is_released seat None out = absurd (cc out)
+out_is_released seat (Some status.Waiting) out = absurd (cc out)
+out_is_released seat (Some (status.Out at)) out = (refl, refl)
+out_is_released seat (Some (status.Released at)) out = absurd (cc out)
+
 -- an entry that was released has no further event, and one that was dispatched keeps its seat
-released_is_last : (kind : EventKind) (old : Option Status) → StandsBefore kind old → is_released old ≡ true → ⊥
+pub released_is_last : (kind : EventKind) (old : Option Status) → StandsBefore kind old → is_released old ≡ true → ⊥
 released_is_last kind.Request old stands released = absurd (cc (sym (ap is_released stands) ∙ released))
 released_is_last kind.Dispatch old stands released = absurd (cc (sym (ap is_released stands) ∙ released))
-released_is_last kind.Release None stands released = absurd (cc stands)
-released_is_last kind.Release (Some status.Waiting) stands released = absurd (cc stands)
-released_is_last kind.Release (Some (status.Out at)) stands released = absurd (cc released)
-released_is_last kind.Release (Some (status.Released at)) stands released = absurd (cc stands)
+released_is_last kind.Release old stands released = absurd (cc (sym released ∙ (out_is_released 0 old stands).1))
 
 seat_stays_next : (kind : EventKind) (seat : ℕ) (old : Option Status) → StandsBefore kind old → (at : ℕ) → seat_of old ≡ Some at → seat_of (next kind seat old) ≡ Some at
 seat_stays_next kind.Request seat old stands at e = absurd (cc (sym (ap seat_of stands) ∙ e))
@@ -93,11 +131,11 @@ module _ (plan : List (List Request)) (history : List Event) (act : EventKind) (
   others_fresh : (i : ℕ) → j ≢ i → issued history ≤ i → status_of (history ++ event_of act j seat ∷ []) i ≡ None
   others_fresh i ne late = status_other history act j seat i ne ∙ steady.fresh i late
 
-  others_passed : (i : ℕ) → j ≢ i → WasDispatched (history ++ event_of act j seat ∷ []) i → NothingBlocks plan (history ++ event_of act j seat ∷ []) i
+  others_passed : (i : ℕ) → j ≢ i → HasSeat (history ++ event_of act j seat ∷ []) i → NothingBlocks plan (history ++ event_of act j seat ∷ []) i
   others_passed i ne dispatched =
       unblocked_stays plan history act j seat steady may i (steady.passed i (ap (λ s. is_some (seat_of s)) (sym (status_other history act j seat i ne)) ∙ dispatched))
 
-  own_passed : NothingBlocks plan history j → (i : ℕ) → WasDispatched (history ++ event_of act j seat ∷ []) i → NothingBlocks plan (history ++ event_of act j seat ∷ []) i
+  own_passed : NothingBlocks plan history j → (i : ℕ) → HasSeat (history ++ event_of act j seat ∷ []) i → NothingBlocks plan (history ++ event_of act j seat ∷ []) i
   own_passed unblocked i dispatched =
       elim (eqb_tells j i) [
         | inl t ↦ subst (NothingBlocks plan (history ++ event_of act j seat ∷ [])) t.1 (unblocked_stays plan history act j seat steady may j unblocked)
@@ -131,7 +169,7 @@ steady_more plan history kind.Request j seat steady may =
       within = omega arith;
       passed = λ i dispatched.
           elim (eqb_tells j i) [
-            | inl t ↦ absurd (cc (sym (ap (λ s. is_some (seat_of s)) (status_own history kind.Request j seat)) ∙ subst (WasDispatched (history ++ event_of kind.Request j seat ∷ [])) (sym t.1) dispatched))
+            | inl t ↦ absurd (cc (sym (ap (λ s. is_some (seat_of s)) (status_own history kind.Request j seat)) ∙ subst (HasSeat (history ++ event_of kind.Request j seat ∷ [])) (sym t.1) dispatched))
             | inr n ↦ others_passed plan history kind.Request j seat steady may i n.1 dispatched
           ];
     }

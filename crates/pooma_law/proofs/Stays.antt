@@ -1,16 +1,16 @@
 -- What a history gives, as the history or the plan grows.
-use Rattle.std.proofs.Common.{◌≡◌, ◌+◌, ◌<◌, ◌≤◌, ℕ, zero, suc, true, false, Bool, List, [], ◌∷◌, ◌++◌, map, length, take, drop, Option, Some, None, is_some, slice_get, fold, refl, sym, ◌∙◌, ap, subst, arith, inl, inr, take-append-drop}
+use Rattle.std.proofs.Common.{◌≡◌, ◌<◌, ℕ, suc, true, false, Bool, List, [], ◌∷◌, ◌++◌, length, take, drop, Some, is_some, slice_get, fold, refl, sym, ◌∙◌, ap, subst, arith, inl, inr, take-append-drop}
 use Rattle.std.proofs.lemmas.Bool.Decides.{leb_tells}
-use Rattle.std.proofs.lemmas.List.{length-map, map-append, take-map, length-take-le}
+use Rattle.std.proofs.lemmas.List.{length-map, map-append, take-map}
 use Rattle.pooma_machine.specs.declared.step.Event.{Event}
-use Rattle.pooma_machine.specs.Steps.{requests_of, status_of, issued, is_released, seat_of, IsLegal}
-use Rattle.pooma_machine.specs.Values.{Meaning, Values, values, values_after, values_next, opened, lent_by, asks_of}
+use Rattle.pooma_machine.specs.Steps.{status_of, issued, is_released, IsLegal}
+use Rattle.pooma_machine.specs.Values.{Meaning, Values, values, values_after, values_next, opened, asks_of}
 use Rattle.pooma_law.specs.Ser.{ser}
 use Rattle.pooma_law.specs.Histories.{WasDispatched}
 use Rattle.pooma_law.proofs.Places.{get_left, there}
 use Rattle.pooma_law.proofs.OneByOne.{length-ser_outcomes}
-use Rattle.pooma_law.proofs.Growth.{legal_front, legal_longer, legal_issued, entries_issued, seat_kept, released_kept}
-use Rattle.pooma_law.proofs.Statuses.{steady_of}
+use Rattle.pooma_law.proofs.Growth.{legal_front, legal_longer, legal_issued, seat_kept, released_kept}
+use Rattle.pooma_law.proofs.Statuses.{steady_of, seat_of_dispatched}
 use Rattle.pooma_law.proofs.Agreement.{Agrees, agrees}
 
 module _ {W X O S : Type 0} (m : Meaning W X O S) where
@@ -38,11 +38,12 @@ module _ {W X O S : Type 0} (m : Meaning W X O S) where
       let n = issued history in
       sym (values_longer (take n plan) (drop n plan) opening history (issued_asks plan history legal)) ∙ ap (λ p. values m p opening history) (take-append-drop n plan)
 
-  pub lent_kept : (plan : List W) (opening : List X) (history later : List Event) → IsLegal (asks_of m plan) (history ++ later) → (j seat : ℕ) → seat_of (status_of history j) ≡ Some seat
+  pub lent_kept : (plan : List W) (opening : List X) (history later : List Event) → IsLegal (asks_of m plan) (history ++ later) → (j : ℕ) → WasDispatched history j
       → (values m plan opening (history ++ later)).lent j ≡ (values m plan opening history).lent j
-  lent_kept plan opening history later legal j seat dispatched =
-      (agrees m plan opening (history ++ later) legal).lent j (ap is_some (seat_kept (asks_of m plan) history later j seat legal dispatched))
-      ∙ sym ((agrees m plan opening history (legal_front (asks_of m plan) history later legal)).lent j (ap is_some dispatched))
+  lent_kept plan opening history later legal j dispatched =
+      let at = seat_of_dispatched history j dispatched in
+      (agrees m plan opening (history ++ later) legal).lent j (ap is_some (seat_kept (asks_of m plan) history later j at.0 legal at.1))
+      ∙ sym ((agrees m plan opening history (legal_front (asks_of m plan) history later legal)).lent j (ap is_some at.1))
 
   pub outcome_kept : (plan : List W) (opening : List X) (history later : List Event) → IsLegal (asks_of m plan) (history ++ later) → (j : ℕ) → is_released (status_of history j) ≡ true
       → (values m plan opening (history ++ later)).outcome j ≡ (values m plan opening history).outcome j

@@ -1,5 +1,5 @@
 -- A legal history tells each status by the events that stand in it, each of them once.
-use Rattle.std.proofs.Common.{◌≡◌, ◌≢◌, ◌↔◌, ◌+◌, ◌<◌, ◌≤◌, ℕ, zero, suc, true, false, List, [], ◌∷◌, ◌++◌, length, take, drop, Option, Some, None, is_some, slice_get, get_or, Contains, refl, sym, ◌∙◌, ap, subst, arith, inl, inr, length-take, take-append-drop}
+use Rattle.std.proofs.Common.{◌≡◌, ◌≢◌, ◌↔◌, ◌+◌, ◌<◌, ℕ, true, List, [], ◌∷◌, ◌++◌, length, take, drop, Option, Some, None, is_some, slice_get, Contains, refl, sym, ◌∙◌, ap, subst, arith, inl, inr, take-append-drop}
 use Rattle.std.proofs.lemmas.Bool.Decides.{eqb_tells, leb_tells}
 use Rattle.std.proofs.lemmas.List.{length-take-le}
 use Rattle.std.proofs.lemmas.List.Elements.{Contains-push, Contains-push_cases, Contains-append_left}
@@ -14,7 +14,7 @@ use Rattle.pooma_machine.specs.declared.step.Status.TheVariants as status
 use Rattle.pooma_machine.specs.Steps.{next, status_of, issued, is_out, is_released, seat_of, event_of, MayCome, IsLegal}
 use Rattle.pooma_law.proofs.Places.{get_left}
 use Rattle.pooma_law.proofs.Growth.{legal_front, entries_issued}
-use Rattle.pooma_law.proofs.Statuses.{IsSteady, steady_of, steady_none, steady_more, along, status_own, status_other, seat_stays, released_stays}
+use Rattle.pooma_law.proofs.Statuses.{dispatched_of_seat, out_is_released, released_is_last, IsSteady, steady_of, steady_none, steady_more, along, status_own, status_other, seat_stays, released_stays}
 
 -- the same, with what is known of the statuses before each event
 pub along_steady : (plan : List (List Request)) (P : List Event → Type 0) → P [] → ((history : List Event) (event : Event) → IsSteady plan history → MayCome plan history event → P history → P (history ++ event ∷ []))
@@ -137,12 +137,6 @@ release_told plan j = along_steady plan (λ h. is_released (status_of h j) ≡ t
 told_release : (plan : List (List Request)) (j seat : ℕ) (history : List Event) → IsLegal plan history → Contains history (event_of kind.Release j seat) → is_released (status_of history j) ≡ true
 told_release plan j seat = along_steady plan (λ h. Contains h (event_of kind.Release j seat) → is_released (status_of h j) ≡ true) (λ none. let never = none.1 in absurd (omega arith)) step
   where
-    next_released : (old : Option Status) → is_out old ≡ true → is_released (next kind.Release seat old) ≡ true
-    next_released None out = absurd (cc out)
-    next_released (Some status.Waiting) out = absurd (cc out)
-    next_released (Some (status.Out at)) out = refl
-    next_released (Some (status.Released at)) out = absurd (cc out)
-
     step : (history : List Event) (event : Event) → IsSteady plan history → MayCome plan history event → (Contains history (event_of kind.Release j seat) → is_released (status_of history j) ≡ true)
         → Contains (history ++ event ∷ []) (event_of kind.Release j seat) → is_released (status_of (history ++ event ∷ []) j) ≡ true
     step history event steady may before told =
@@ -150,11 +144,20 @@ told_release plan j seat = along_steady plan (λ h. Contains h (event_of kind.Re
           | inl old ↦ released_stays plan history event.kind event.entry event.seat steady may j (before old)
           | inr now ↦
               subst (λ e. is_released (status_of (history ++ e ∷ []) j) ≡ true) (sym now)
-              (ap is_released (status_own history kind.Release j seat) ∙ next_released (status_of history j) (subst (MayCome plan history) now may).1)
+              (ap is_released (status_own history kind.Release j seat) ∙ (out_is_released seat (status_of history j) (subst (MayCome plan history) now may).1).0)
         ]
 
 pub released_is_told : (plan : List (List Request)) (history : List Event) → IsLegal plan history → (j : ℕ) → (is_released (status_of history j) ≡ true) ↔ ((seat : ℕ) × Contains history (event_of kind.Release j seat))
 released_is_told plan history legal j = (release_told plan j history legal, λ told. told_release plan j told.0 history legal told.1)
+
+-- an entry whose dispatch stands in the history and no release is out
+pub dispatched_is_out : (plan : List (List Request)) (history : List Event) → IsLegal plan history → (j seat : ℕ) → Contains history (event_of kind.Dispatch j seat)
+    → ((at : ℕ) → Contains history (event_of kind.Release j at) → ⊥) → is_out (status_of history j) ≡ true
+dispatched_is_out plan history legal j seat told never =
+    elim (dispatched_of_seat (status_of history j) seat (told_seat plan j seat history legal told)) [
+      | inl out ↦ out
+      | inr released ↦ let last = release_told plan j history legal released in absurd (never last.0 last.1)
+    ]
 
 -- an event does not come again, at whatever seat
 not_again : (plan : List (List Request)) (history : List Event) → IsLegal plan history → (act : EventKind) (j at seat : ℕ) → Contains history (event_of act j at) → MayCome plan history (event_of act j seat) → ⊥
@@ -164,13 +167,7 @@ not_again plan history legal kind.Request j at seat (k, within, is) may =
     let next : j ≡ issued history = may.1 in
     absurd (omega arith)
 not_again plan history legal kind.Dispatch j at seat told may = absurd (cc (sym (told_seat plan j at history legal told) ∙ ap seat_of may.1.0))
-not_again plan history legal kind.Release j at seat told may = absurd (no_longer (status_of history j) may.1 (told_release plan j at history legal told))
-  where
-    no_longer : (now : Option Status) → is_out now ≡ true → is_released now ≡ true → ⊥
-    no_longer None out released = absurd (cc out)
-    no_longer (Some status.Waiting) out released = absurd (cc out)
-    no_longer (Some (status.Out s)) out released = absurd (cc released)
-    no_longer (Some (status.Released s)) out released = absurd (cc out)
+not_again plan history legal kind.Release j at seat told may = released_is_last kind.Release (status_of history j) may.1 (told_release plan j at history legal told)
 
 comes_once : (plan : List (List Request)) (history : List Event) → IsLegal plan history → (k l : ℕ) (one other : Event) → slice_get history k ≡ Some one → slice_get history l ≡ Some other → one.kind ≡ other.kind → one.entry ≡ other.entry → k < l → ⊥
 comes_once plan history legal k l one other at later kind entry before =

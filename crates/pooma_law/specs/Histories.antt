@@ -1,13 +1,13 @@
--- What is said of each legal history.
-use Rattle.std.specs.Prelude.{ℕ, List, IsSome}
+-- How the law speaks of legal histories.
+use Rattle.std.specs.Prelude.{◌⊎◌, ℕ, IsTrue, List}
 use Rattle.pooma_machine.specs.declared.step.Event.{Event}
-use Rattle.pooma_machine.specs.Steps.{IsLegal, status_of, seat_of}
+use Rattle.pooma_machine.specs.Steps.{IsLegal, status_of, is_out, is_released}
 use Rattle.pooma_machine.specs.Values.{Meaning, asks_of}
 
 -- it is so for every plan, all opening values and every legal history
 abbrev pub ForEachHistory : {W V O S : Type 0} → Meaning W V O S → (List W → List V → List Event → Type 0) → Type 0
 ForEachHistory {W} {V} meaning says = (plan : List W) (opening : List V) (history : List Event) → IsLegal (asks_of meaning plan) history → says plan opening history
 
--- the entry is out or was released
+-- the entry is out, or was released
 abbrev pub WasDispatched : List Event → ℕ → Type 0
-WasDispatched history j = IsSome (seat_of (status_of history j))
+WasDispatched history j = IsTrue (is_out (status_of history j)) ⊎ IsTrue (is_released (status_of history j))

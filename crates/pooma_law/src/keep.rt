@@ -1,7 +1,8 @@
 ghost use Rattle.std.specs.Prelude.{◌≡◌, ◌++◌, ◌∷◌, [], ℕ, List, IsTrue, is_some, take};
 ghost use Rattle.pooma_machine.specs.declared.step.Event.{Event};
-ghost use Rattle.pooma_machine.specs.Steps.{IsLegal, IsDispatchedAt, status_of, issued, is_released};
+ghost use Rattle.pooma_machine.specs.Steps.{IsLegal, status_of, issued, is_released};
 ghost use Rattle.pooma_machine.specs.Values.{asks_of, values, values_after};
+ghost use Rattle.pooma_law.specs.Histories.{WasDispatched};
 
 use pooma_machine::Work;
 
@@ -18,7 +19,7 @@ pub fn values_stay<W: Work>()
         → values W.meaning (take (issued history) plan) opening history ≡ values W.meaning plan opening history }
 
     // Whatever comes later, what was lent to an entry and what it answered stay.
-    ensures lent { (plan : List W) (opening : _) (history later : List Event) → IsLegal (asks_of W.meaning plan) (history ++ later) → (j seat : ℕ) → IsDispatchedAt history j seat
+    ensures lent { (plan : List W) (opening : _) (history later : List Event) → IsLegal (asks_of W.meaning plan) (history ++ later) → (j : ℕ) → WasDispatched history j
         → (values W.meaning plan opening (history ++ later)).lent j ≡ (values W.meaning plan opening history).lent j }
     ensures outcome { (plan : List W) (opening : _) (history later : List Event) → IsLegal (asks_of W.meaning plan) (history ++ later) → (j : ℕ) → IsTrue (is_released (status_of history j))
         → (values W.meaning plan opening (history ++ later)).outcome j ≡ (values W.meaning plan opening history).outcome j }
