@@ -2,6 +2,8 @@
 #![tactic(auto)]
 
 #[cfg(test)]
+mod law;
+#[cfg(test)]
 mod machine;
 #[cfg(test)]
 mod queue;
