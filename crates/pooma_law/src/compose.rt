@@ -1,6 +1,6 @@
-ghost use Rattle.std.specs.Prelude.{◌≡◌, ◌++◌, ℕ, false, List, Some, All, length, take, slice_get};
+ghost use Rattle.std.specs.Prelude.{◌≡◌, ◌+◌, ◌++◌, ℕ, false, List, Some, All, length, take, slice_get};
 ghost use Rattle.pooma_machine.specs.Values.{lent_by};
-ghost use Rattle.pooma_law.specs.Ser.{ser};
+ghost use Rattle.pooma_law.specs.Ser.{ser, with_work};
 ghost use Rattle.pooma_law.specs.Writers.{asks_to_write};
 
 use pooma_machine::Work;
@@ -12,6 +12,10 @@ pub fn ser_composes<W: Work>()
         → (ser W.meaning (front ++ rest) opening).objects ≡ (ser W.meaning rest (ser W.meaning front opening).objects).objects }
     ensures outcomes { (front rest : List W) (opening : _)
         → (ser W.meaning (front ++ rest) opening).outcomes ≡ (ser W.meaning front opening).outcomes ++ (ser W.meaning rest (ser W.meaning front opening).objects).outcomes }
+
+    // The entries up to one, with it, are those before it and then its work.
+    ensures next { (plan : List W) (opening : _) (j : ℕ) (work : W) → slice_get plan j ≡ Some work
+        → ser W.meaning (take (j + 1) plan) opening ≡ with_work W.meaning (ser W.meaning (take j plan) opening) work }
 
     // There is an outcome for each work, and no object is made or lost.
     ensures outcome_count { (plan : List W) (opening : _) → length (ser W.meaning plan opening).outcomes ≡ length plan }
