@@ -20,9 +20,15 @@ impl Work for Doubling {
 
     type Outcome = u64;
 
+    type Content = u64;
+
     type Shape = ();
 
     ghost use Rattle.std.specs.Prelude.{◌+◌, ◌*◌, ◌%◌, ◌^◌, ◌∷◌, [], unwrap_or, slice_get, true};
+
+    ghost content = { λ v. v };
+
+    ghost ready = { λ v. true };
 
     ghost meaning = { record { statement = λ w. 0; requests = λ w. w.asks ∷ []; new_value = λ w v rs. ((2 * v) % 2 ^ 64 + 1) % 2 ^ 64; outcome = λ w v rs. unwrap_or (slice_get rs 0) 0; shape = λ v. tt; fits = λ w s rs. true } };
 
@@ -48,6 +54,10 @@ impl Work for Doubling {
     fn copied(_alloc: Global, value: &u64) -> Result<u64, AllocError> {
         Ok(*value)
     }
+
+    fn prepared(_alloc: Global, _value: &mut u64) -> Result<(), AllocError> {
+        Ok(())
+    }
 }
 
 // Requests an entry over one object.
@@ -68,7 +78,7 @@ fn ask(
             asks: Request { object, mode },
         },
     )?;
-    match machine.request(0, work) {
+    match machine.request(rt.alloc(), 0, work) {
         Ok(_) => Ok(()),
         Err(_) => Err(Fail::from("no memory")),
     }

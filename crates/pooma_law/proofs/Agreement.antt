@@ -11,7 +11,7 @@ use Rattle.pooma_machine.specs.declared.step.EventKind.{EventKind}
 use Rattle.pooma_machine.specs.declared.step.EventKind.TheVariants as kind
 use Rattle.pooma_machine.specs.declared.step.Status.{Status}
 use Rattle.pooma_machine.specs.Steps.{next, requests_of, status_of, is_released, seat_of, event_of, NothingBlocks, MayCome, IsLegal}
-use Rattle.pooma_machine.specs.Values.{Meaning, Lent, Values, values, values_after, values_next, opened, lend, give_back, new_value_of, lent_by, written_object, put_back, with_at, asks_of}
+use Rattle.pooma_machine.specs.Values.{Meaning, Lent, Values, values, values_after, values_next, opened, lend, give_back, new_value_of, outcome_of, lent_by, written_object, put_back, with_at, asks_of}
 use Rattle.pooma_law.specs.Ser.{Results, ser}
 use Rattle.pooma_law.specs.Writers.{asks_to_write}
 use Rattle.pooma_law.proofs.Places.{there, with_at_own, with_at_other}
@@ -186,7 +186,7 @@ module _ {W X O S : Type 0} (m : Meaning W X O S) (plan : List W) (opening : Lis
         → (give_back m j work (values m plan opening history)).outcome i ≡ slice_get (ser m plan opening).outcomes i
     outcome_released i done =
         let was = values m plan opening history in
-        let answer = λ (lent : Lent X). Some (m.outcome work lent.written lent.reads) in
+        let answer = λ (lent : Lent X). Some (outcome_of m work lent) in
         elim (eqb_tells j i) [
           | inl t ↦
               subst (λ k. with_at was.outcome j (answer (was.lent j)) k ≡ slice_get (ser m plan opening).outcomes k) t.1

@@ -6,7 +6,7 @@ use Rattle.std.proofs.lemmas.List.Sums.{fold-append}
 use Rattle.std.proofs.lemmas.Option.{slice_get-map, get_or_from_slice_get, slice_get_within}
 use Rattle.pooma_machine.specs.declared.step.Request.{Request}
 use Rattle.pooma_machine.specs.Steps.{requests_of}
-use Rattle.pooma_machine.specs.Values.{Meaning, lent_by, new_value_of, written_object, put_back, asks_of, is_write}
+use Rattle.pooma_machine.specs.Values.{Meaning, lent_by, new_value_of, outcome_of, written_object, put_back, asks_of, is_write}
 use Rattle.pooma_law.specs.Ser.{Results, at_first, with_work, ser}
 use Rattle.pooma_law.specs.Writers.{asks_to_write}
 use Rattle.pooma_law.proofs.Places.{there, take_further, take_past, get_middle, get-set_own, get-set_other}
@@ -57,7 +57,7 @@ module _ {W X O S : Type 0} (m : Meaning W X O S) where
   from_objects (w ∷ ws) objects outcomes =
       let lent = lent_by objects (m.requests w) in
       let next = put_back objects (written_object (m.requests w)) (new_value_of m w lent) in
-      let answer = m.outcome w lent.written lent.reads in
+      let answer = outcome_of m w lent in
       from_objects ws next (outcomes ++ answer ∷ []) ∙ sym (from_objects ws next (answer ∷ []))
 
   from_outcomes : (works : List W) (objects : List X) (outcomes : List O) → (fold (with_work m) (record { objects = objects; outcomes = outcomes }) works).outcomes ≡ outcomes ++ (ser m works objects).outcomes
@@ -65,7 +65,7 @@ module _ {W X O S : Type 0} (m : Meaning W X O S) where
   from_outcomes (w ∷ ws) objects outcomes =
       let lent = lent_by objects (m.requests w) in
       let next = put_back objects (written_object (m.requests w)) (new_value_of m w lent) in
-      let answer = m.outcome w lent.written lent.reads in
+      let answer = outcome_of m w lent in
       from_outcomes ws next (outcomes ++ answer ∷ []) ∙ (append_assoc outcomes (answer ∷ []) (ser m ws next).outcomes ∙ ap (λ zs. outcomes ++ zs) (sym (from_outcomes ws next (answer ∷ []))))
 
   -- a front and then the rest
@@ -85,14 +85,14 @@ module _ {W X O S : Type 0} (m : Meaning W X O S) where
   length-ser_outcomes (w ∷ ws) opening =
       let lent = lent_by opening (m.requests w) in
       let next = put_back opening (written_object (m.requests w)) (new_value_of m w lent) in
-      ap length (from_outcomes ws next (m.outcome w lent.written lent.reads ∷ [])) ∙ ap suc (length-ser_outcomes ws next)
+      ap length (from_outcomes ws next (outcome_of m w lent ∷ [])) ∙ ap suc (length-ser_outcomes ws next)
 
   pub length-ser_objects : (plan : List W) (opening : List X) → length (ser m plan opening).objects ≡ length opening
   length-ser_objects [] opening = refl
   length-ser_objects (w ∷ ws) opening =
       let lent = lent_by opening (m.requests w) in
       let next = put_back opening (written_object (m.requests w)) (new_value_of m w lent) in
-      ap length (from_objects ws next (m.outcome w lent.written lent.reads ∷ [])) ∙ (length-ser_objects ws next ∙ length-put_back opening (written_object (m.requests w)) (new_value_of m w lent))
+      ap length (from_objects ws next (outcome_of m w lent ∷ [])) ∙ (length-ser_objects ws next ∙ length-put_back opening (written_object (m.requests w)) (new_value_of m w lent))
 
 module _ {W X O S : Type 0} (m : Meaning W X O S) (plan : List W) (opening : List X) where
   -- one entry more
@@ -101,11 +101,11 @@ module _ {W X O S : Type 0} (m : Meaning W X O S) (plan : List W) (opening : Lis
 
   -- an entry's outcome, from what the entries before it leave
   pub outcome_at : (j : ℕ) (work : W) → slice_get plan j ≡ Some work
-      → slice_get (ser m plan opening).outcomes j ≡ Some (m.outcome work (lent_by (ser m (take j plan) opening).objects (m.requests work)).written (lent_by (ser m (take j plan) opening).objects (m.requests work)).reads)
+      → slice_get (ser m plan opening).outcomes j ≡ Some (outcome_of m work (lent_by (ser m (take j plan) opening).objects (m.requests work)))
   outcome_at j work at =
       let before = ser m (take j plan) opening in
       let lent = lent_by before.objects (m.requests work) in
-      let answer = m.outcome work lent.written lent.reads in
+      let answer = outcome_of m work lent in
       let rest = (ser m (drop (suc j) plan) (ser m (take (suc j) plan) opening).objects).outcomes in
       let within : j < length plan = slice_get_within plan j work at in
       let long : length before.outcomes ≡ j = length-ser_outcomes m (take j plan) opening ∙ length-take-le j plan (omega arith) in

@@ -176,13 +176,7 @@ steady_more plan history kind.Request j seat steady may =
 steady_more plan history kind.Dispatch j seat steady may =
     known_steady plan history kind.Dispatch j seat steady may refl (λ none. absurd (cc (sym none ∙ may.1.0))) may.1.1
 steady_more plan history kind.Release j seat steady may =
-    known_steady plan history kind.Release j seat steady may refl (λ none. absurd (cc (sym (ap is_out none) ∙ may.1))) (steady.passed j (out_was_dispatched (status_of history j) may.1))
-  where
-    out_was_dispatched : (now : Option Status) → is_out now ≡ true → is_some (seat_of now) ≡ true
-    out_was_dispatched None out = absurd (cc out)
-    out_was_dispatched (Some status.Waiting) out = absurd (cc out)
-    out_was_dispatched (Some (status.Out at)) out = refl
-    out_was_dispatched (Some (status.Released at)) out = refl
+    known_steady plan history kind.Release j seat steady may refl (λ none. absurd (cc (sym (ap is_out none) ∙ may.1))) (steady.passed j (out_has_seat (status_of history j) may.1))
 
 -- what holds before the first event, and after each event that may come, holds after each legal history
 pub along : (plan : List (List Request)) (P : List Event → Type 0) → P [] → ((history : List Event) (event : Event) → P history → MayCome plan history event → P (history ++ event ∷ []))

@@ -14,7 +14,7 @@ use Rattle.pooma_machine.specs.declared.step.Status.TheVariants as status
 use Rattle.pooma_machine.specs.Steps.{next, status_of, issued, is_out, is_released, seat_of, event_of, MayCome, IsLegal}
 use Rattle.pooma_law.proofs.Places.{get_left}
 use Rattle.pooma_law.proofs.Growth.{legal_front, entries_issued}
-use Rattle.pooma_law.proofs.Statuses.{dispatched_of_seat, out_is_released, released_is_last, IsSteady, steady_of, steady_none, steady_more, along, status_own, status_other, seat_stays, released_stays}
+use Rattle.pooma_law.proofs.Statuses.{dispatched_of_seat, out_is_released, released_is_last, StandsBefore, stands_before, IsSteady, steady_of, steady_none, steady_more, along, status_own, status_other, seat_stays, released_stays}
 
 -- the same, with what is known of the statuses before each event
 pub along_steady : (plan : List (List Request)) (P : List Event → Type 0) → P [] → ((history : List Event) (event : Event) → IsSteady plan history → MayCome plan history event → P history → P (history ++ event ∷ []))
@@ -24,45 +24,41 @@ along_steady plan P first step history legal =
     (λ before event now may. (steady_more plan before event.kind event.entry event.seat now.0 may, step before event now.0 may now.1)) history legal).1
 
 -- an entry has a status exactly where it was issued
+own_known : (act : EventKind) (seat : ℕ) (old : Option Status) → StandsBefore act old → is_some (next act seat old) ≡ true
+own_known kind.Request seat old stands = refl
+own_known kind.Dispatch seat old stands = refl
+own_known kind.Release seat None stands = absurd (cc stands)
+own_known kind.Release seat (Some status.Waiting) stands = refl
+own_known kind.Release seat (Some (status.Out at)) stands = refl
+own_known kind.Release seat (Some (status.Released at)) stands = refl
+
+others_issued : (plan : List (List Request)) (history : List Event) (act : EventKind) (i seat j : ℕ) → MayCome plan history (event_of act i seat) → i ≢ j → j < issued (history ++ event_of act i seat ∷ []) → j < issued history
+others_issued plan history kind.Request i seat j may ne h =
+    let more : issued (history ++ event_of kind.Request i seat ∷ []) ≡ issued history + 1 = sum_by-append _ history (event_of kind.Request i seat ∷ []) in
+    let now : i ≡ issued history = may.1 in
+    omega arith
+others_issued plan history kind.Dispatch i seat j may ne h =
+    let more : issued (history ++ event_of kind.Dispatch i seat ∷ []) ≡ issued history + 0 = sum_by-append _ history (event_of kind.Dispatch i seat ∷ []) in
+    omega arith
+others_issued plan history kind.Release i seat j may ne h =
+    let more : issued (history ++ event_of kind.Release i seat ∷ []) ≡ issued history + 0 = sum_by-append _ history (event_of kind.Release i seat ∷ []) in
+    omega arith
+
 issued_known : (plan : List (List Request)) (history : List Event) → IsLegal plan history → (j : ℕ) → j < issued history → is_some (status_of history j) ≡ true
 issued_known plan = along_steady plan (λ h. (j : ℕ) → j < issued h → is_some (status_of h j) ≡ true) (λ j h. absurd (omega arith)) step
   where
-    some_next : (act : EventKind) (seat : ℕ) (old : Option Status) → is_some old ≡ true → is_some (next act seat old) ≡ true
-    some_next kind.Request seat old some = refl
-    some_next kind.Dispatch seat old some = refl
-    some_next kind.Release seat None some = absurd (cc some)
-    some_next kind.Release seat (Some status.Waiting) some = refl
-    some_next kind.Release seat (Some (status.Out at)) some = refl
-    some_next kind.Release seat (Some (status.Released at)) some = refl
-
-    after : (history : List Event) (act : EventKind) (i seat : ℕ) → IsSteady plan history → MayCome plan history (event_of act i seat) → ((j : ℕ) → j < issued history → is_some (status_of history j) ≡ true)
-        → (j : ℕ) → j < issued (history ++ event_of act i seat ∷ []) → is_some (status_of (history ++ event_of act i seat ∷ []) j) ≡ true
-    after history kind.Request i seat steady may old j h =
-        let more : issued (history ++ event_of kind.Request i seat ∷ []) ≡ issued history + 1 = sum_by-append _ history (event_of kind.Request i seat ∷ []) in
-        let now : i ≡ issued history = may.1 in
-        elim (eqb_tells i j) [
-          | inl t ↦ subst (λ k. is_some (status_of (history ++ event_of kind.Request i seat ∷ []) k) ≡ true) t.1 (ap is_some (status_own history kind.Request i seat))
-          | inr n ↦ let ne : i ≢ j = n.1 in ap is_some (status_other history kind.Request i seat j ne) ∙ old j (omega arith)
-        ]
-    after history kind.Dispatch i seat steady may old j h =
-        let more : issued (history ++ event_of kind.Dispatch i seat ∷ []) ≡ issued history + 0 = sum_by-append _ history (event_of kind.Dispatch i seat ∷ []) in
-        elim (eqb_tells i j) [
-          | inl t ↦ subst (λ k. is_some (status_of (history ++ event_of kind.Dispatch i seat ∷ []) k) ≡ true) t.1 (ap is_some (status_own history kind.Dispatch i seat))
-          | inr n ↦ ap is_some (status_other history kind.Dispatch i seat j n.1) ∙ old j (omega arith)
-        ]
-    after history kind.Release i seat steady may old j h =
-        let more : issued (history ++ event_of kind.Release i seat ∷ []) ≡ issued history + 0 = sum_by-append _ history (event_of kind.Release i seat ∷ []) in
-        let was : is_some (status_of history j) ≡ true = old j (omega arith) in
-        elim (eqb_tells i j) [
-          | inl t ↦
-              subst (λ k. is_some (status_of (history ++ event_of kind.Release i seat ∷ []) k) ≡ true) t.1
-              (ap is_some (status_own history kind.Release i seat) ∙ some_next kind.Release seat (status_of history i) (ap (λ k. is_some (status_of history k)) t.1 ∙ was))
-          | inr n ↦ ap is_some (status_other history kind.Release i seat j n.1) ∙ was
-        ]
-
     step : (history : List Event) (event : Event) → IsSteady plan history → MayCome plan history event → ((j : ℕ) → j < issued history → is_some (status_of history j) ≡ true) → (j : ℕ) → j < issued (history ++ event ∷ [])
         → is_some (status_of (history ++ event ∷ []) j) ≡ true
-    step history event = after history event.kind event.entry event.seat
+    step history event steady may old j h =
+        elim (eqb_tells event.entry j) [
+          | inl t ↦
+              subst (λ k. is_some (status_of (history ++ event ∷ []) k) ≡ true) t.1
+              (ap is_some (status_own history event.kind event.entry event.seat)
+              ∙ own_known event.kind event.seat (status_of history event.entry) (stands_before plan history event.kind event.entry event.seat steady may))
+          | inr n ↦
+              ap is_some (status_other history event.kind event.entry event.seat j n.1)
+              ∙ old j (others_issued plan history event.kind event.entry event.seat j may n.1 h)
+        ]
 
 pub issued_is_known : (plan : List (List Request)) (history : List Event) → IsLegal plan history → (j : ℕ) → (is_some (status_of history j) ≡ true) ↔ (j < issued history)
 issued_is_known plan history legal j = (known, issued_known plan history legal j)

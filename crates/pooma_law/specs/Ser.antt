@@ -1,6 +1,6 @@
 -- What is left when the works of a plan are done one after another, each whole before the next is begun.
 use Rattle.std.specs.Prelude.{List, [], ◌∷◌, ◌++◌, fold}
-use Rattle.pooma_machine.specs.Values.{Meaning, lent_by, new_value_of, put_back, written_object}
+use Rattle.pooma_machine.specs.Values.{Meaning, lent_by, new_value_of, outcome_of, put_back, written_object}
 
 -- the objects' values, and the outcomes of the works that were done, in their order
 pub record Results (V O : Type 0) : Type 0 where
@@ -18,7 +18,7 @@ with_work meaning now work =
     let lent = lent_by now.objects (meaning.requests work) in
     record {
       objects = put_back now.objects (written_object (meaning.requests work)) (new_value_of meaning work lent);
-      outcomes = now.outcomes ++ meaning.outcome work lent.written lent.reads ∷ [];
+      outcomes = now.outcomes ++ outcome_of meaning work lent ∷ [];
     }
 
 -- after all works of the plan, from these values of the objects on

@@ -9,22 +9,22 @@ use pooma_machine::Work;
 /// The law of the values that a history gives, as the history grows or the plan does.
 pub fn values_stay<W: Work>()
     // A further event makes of them what its kind says.
-    ensures next { (plan : List W) (opening : _) (history : List Event) (event : Event)
+    ensures next { (plan : List W) (opening : List W.Content) (history : List Event) (event : Event)
         → values W.meaning plan opening (history ++ event ∷ []) ≡ values_after W.meaning plan (values W.meaning plan opening history) event }
 
     // They do not change where the plan gets further entries, and are those of the entries alone that were issued.
-    ensures longer_plan { (plan more : List W) (opening : _) (history : List Event) → IsLegal (asks_of W.meaning plan) history
+    ensures longer_plan { (plan more : List W) (opening : List W.Content) (history : List Event) → IsLegal (asks_of W.meaning plan) history
         → values W.meaning (plan ++ more) opening history ≡ values W.meaning plan opening history }
-    ensures issued_alone { (plan : List W) (opening : _) (history : List Event) → IsLegal (asks_of W.meaning plan) history
+    ensures issued_alone { (plan : List W) (opening : List W.Content) (history : List Event) → IsLegal (asks_of W.meaning plan) history
         → values W.meaning (take (issued history) plan) opening history ≡ values W.meaning plan opening history }
 
     // Whatever comes later, what was lent to an entry and what it answered stay.
-    ensures lent { (plan : List W) (opening : _) (history later : List Event) → IsLegal (asks_of W.meaning plan) (history ++ later) → (j : ℕ) → WasDispatched history j
+    ensures lent { (plan : List W) (opening : List W.Content) (history later : List Event) → IsLegal (asks_of W.meaning plan) (history ++ later) → (j : ℕ) → WasDispatched history j
         → (values W.meaning plan opening (history ++ later)).lent j ≡ (values W.meaning plan opening history).lent j }
-    ensures outcome { (plan : List W) (opening : _) (history later : List Event) → IsLegal (asks_of W.meaning plan) (history ++ later) → (j : ℕ) → IsTrue (is_released (status_of history j))
+    ensures outcome { (plan : List W) (opening : List W.Content) (history later : List Event) → IsLegal (asks_of W.meaning plan) (history ++ later) → (j : ℕ) → IsTrue (is_released (status_of history j))
         → (values W.meaning plan opening (history ++ later)).outcome j ≡ (values W.meaning plan opening history).outcome j }
 
     // An entry has an outcome exactly where it was released.
-    ensures answered { (plan : List W) (opening : _) (history : List Event) → IsLegal (asks_of W.meaning plan) history
+    ensures answered { (plan : List W) (opening : List W.Content) (history : List Event) → IsLegal (asks_of W.meaning plan) history
         → (j : ℕ) → is_some ((values W.meaning plan opening history).outcome j) ≡ is_released (status_of history j) }
 {}
