@@ -25,7 +25,8 @@ pub fn legal_histories_agree<W: Work>()
 
     // An entry that is out, or was released, was lent what the entries before it leave.
     ensures lent { ForEachHistory W.meaning (λ plan opening history. (j : ℕ) → WasDispatched history j
-        → (values W.meaning plan opening history).lent j ≡ lent_by (ser W.meaning (take j plan) opening).objects (requests_of (asks_of W.meaning plan) j)) }
+        → (values W.meaning plan opening history).lent j
+        ≡ lent_by (ser W.meaning (take j plan) opening).objects (requests_of (asks_of W.meaning plan) j)) }
 
     // An entry that was released has the outcome that it has in its turn.
     ensures outcomes { ForEachHistory W.meaning (λ plan opening history. (j : ℕ) → IsTrue (is_released (status_of history j))

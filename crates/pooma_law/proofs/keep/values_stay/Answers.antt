@@ -7,7 +7,7 @@ returns g c =
     let m = g.W.Work.meaning in
     record {
       next = values_more m;
-      longer_plan = values_longer m;
+      longer_plan = λ plan opening history legal more. values_longer m plan more opening history legal;
       issued_alone = values_issued m;
       lent = lent_kept m;
       outcome = outcome_kept m;
