@@ -60,9 +60,16 @@ impl Work for Increment {
 
     type Outcome = Option<u64>;
 
+    type Content = u64;
+
     type Shape = ();
 
+    ghost use Rattle.std.specs.Prelude.{true};
     ghost use Rattle.pooma_bench.specs.Increments.{increments};
+
+    ghost content = { λ value. value };
+
+    ghost ready = { λ value. true };
 
     ghost meaning = { increments };
 
@@ -84,5 +91,9 @@ impl Work for Increment {
 
     fn copied(_alloc: Global, value: &u64) -> Result<u64, AllocError> {
         Ok(*value)
+    }
+
+    fn prepared(_alloc: Global, _value: &mut u64) -> Result<(), AllocError> {
+        Ok(())
     }
 }

@@ -42,7 +42,7 @@ pub fn request_all(
 {
     for entry in 0..entries {
         let work = Arc::new(alloc, Increment::of_entry(entry))?;
-        if machine.request(SEAT, work).is_err() {
+        if machine.request(alloc, SEAT, work).is_err() {
             return Err(AllocError);
         }
     }

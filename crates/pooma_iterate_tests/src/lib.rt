@@ -7,3 +7,5 @@ mod law;
 mod machine;
 #[cfg(test)]
 mod queue;
+#[cfg(test)]
+mod readiness;

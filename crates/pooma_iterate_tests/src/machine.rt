@@ -1,6 +1,9 @@
 ghost use Rattle.std.specs.Prelude.{◌≡◌, ◌<◌, ◌+◌, ◌^◌, ◌++◌, ◌∷◌, [], IfOk, length, OnOk};
+ghost use Rattle.pooma_machine.specs.Values.{IsComplete};
 
-use pooma_machine::{Became, DispatchError, Journal, ListJournal, Machine, Mode, Request, Work};
+use pooma_machine::{
+    Became, DispatchError, Event, EventKind, Journal, ListJournal, Machine, Mode, Request, Work,
+};
 use std::alloc::{AllocError, Global};
 use std::slice;
 use std::sync::Arc;
@@ -9,6 +12,7 @@ use std::test::Fail;
 // A work over one number: it answers the number that it reads, and adds one to the number that it writes.
 #[derive(Drop)]
 struct Small {
+    statement: u32,
     asks: Request,
 }
 
@@ -17,18 +21,24 @@ impl Work for Small {
 
     type Outcome = u64;
 
+    type Content = u64;
+
     type Shape = ();
 
     ghost use Rattle.std.specs.Prelude.{◌+◌, ◌%◌, ◌^◌, ◌∷◌, [], unwrap_or, slice_get, true};
 
-    ghost meaning = { record { statement = λ w. 0; requests = λ w. w.asks ∷ []; new_value = λ w v rs. (v + 1) % 2 ^ 64; outcome = λ w v rs. unwrap_or (slice_get rs 0) 0; shape = λ v. tt; fits = λ w s rs. true } };
+    ghost content = { λ v. v };
+
+    ghost ready = { λ v. true };
+
+    ghost meaning = { record { statement = λ w. w.statement; requests = λ w. w.asks ∷ []; new_value = λ w v rs. (v + 1) % 2 ^ 64; outcome = λ w v rs. unwrap_or (slice_get rs 0) 0; shape = λ v. tt; fits = λ w s rs. true } };
 
     fn requests(&self) -> &[Request] {
         slice::from_ref(&self.asks)
     }
 
     fn statement(&self) -> u32 {
-        0
+        self.statement
     }
 
     fn perform(&self, write: Option<&mut u64>, reads: &[Arc<u64>]) -> u64 {
@@ -45,6 +55,10 @@ impl Work for Small {
     fn copied(alloc: Global, value: &u64) -> Result<u64, AllocError> {
         let _ = alloc;
         Ok(*value)
+    }
+
+    fn prepared(_alloc: Global, _value: &mut u64) -> Result<(), AllocError> {
+        Ok(())
     }
 }
 
@@ -63,7 +77,7 @@ fn opened(rt: &HostRuntime, objects: usize) -> Result<Machine<Small>, Fail>
     }
 }
 
-// Requests an entry over one object.
+// Requests an entry over one object, whose statement has the number of the entry.
 fn ask(rt: &HostRuntime, machine: &mut Machine<Small>, object: u32, mode: Mode) -> Result<u32, Fail>
     requires there { object < length machine.old.opening }
     requires few { length machine.old.plan < 100 }
@@ -74,10 +88,11 @@ fn ask(rt: &HostRuntime, machine: &mut Machine<Small>, object: u32, mode: Mode) 
     let work = Arc::new(
         rt.alloc(),
         Small {
+            statement: machine.issued(),
             asks: Request { object, mode },
         },
     )?;
-    match machine.request(0, work) {
+    match machine.request(rt.alloc(), 0, work) {
         Ok(entry) => Ok(entry),
         Err(_) => Err(Fail::from("no memory")),
     }
@@ -113,55 +128,161 @@ fn run(rt: &HostRuntime, machine: &mut Machine<Small>, seat: u32, j: u32) -> Res
     }
 }
 
+// What a dispatch of the entry is refused with, if it is.
+fn refusal(
+    rt: &HostRuntime,
+    machine: &mut Machine<Small>,
+    seat: u32,
+    j: u32,
+) -> Option<DispatchError>
+    requires { j < length machine.old.plan }
+    ensures plan { machine.new.plan ≡ machine.old.plan }
+    ensures opening { machine.new.opening ≡ machine.old.opening }
+{
+    machine.dispatch(rt.alloc(), seat, j).err()
+}
+
+fn event(kind: EventKind, entry: u32, seat: u32) -> Event {
+    Event { kind, entry, seat }
+}
+
+// A machine of one object, which an entry asks to write, two to read, and one to write; and the numbers of these entries.
+fn asked(rt: &HostRuntime) -> Result<(Machine<Small>, [u32; 4]), Fail>
+    ensures plan { IfOk result (λ asked. length asked.0.plan ≡ 4) }
+    ensures opening { IfOk result (λ asked. length asked.0.opening ≡ 1) }
+{
+    let mut machine = opened(rt, 1)?;
+    machine.reserve(rt.alloc(), 4)?;
+    let write = ask(rt, &mut machine, 0, Mode::Write)?;
+    let read = ask(rt, &mut machine, 0, Mode::Read)?;
+    let other_read = ask(rt, &mut machine, 0, Mode::Read)?;
+    let last = ask(rt, &mut machine, 0, Mode::Write)?;
+    Ok((machine, [write, read, other_read, last]))
+}
+
 #[test]
 fn a_write_two_reads_and_a_write_of_one_object(rt: HostRuntime) -> Result<(), Fail> {
-    let mut machine = opened(&rt, 1)?;
-    machine.reserve(4)?;
-    assert_eq!(rt; ask(&rt, &mut machine, 0, Mode::Write)?, 0);
-    assert_eq!(rt; ask(&rt, &mut machine, 0, Mode::Read)?, 1);
-    assert_eq!(rt; ask(&rt, &mut machine, 0, Mode::Read)?, 2);
-    assert_eq!(rt; ask(&rt, &mut machine, 0, Mode::Write)?, 3);
-    let early = machine.dispatch(rt.alloc(), 0, 3).err();
+    let (mut machine, entries) = asked(&rt)?;
+    assert_eq!(rt; entries, [0, 1, 2, 3]);
+    let early = refusal(&rt, &mut machine, 0, 3);
     assert_eq!(rt; early, Some(DispatchError::NotReady { object: 0, by: 0 }));
     let became = run(&rt, &mut machine, 0, 0)?;
     assert_eq!(rt; became.entries(), [1, 2].as_slice());
     assert!(rt; !became.more());
-    assert!(rt; machine.dispatch(rt.alloc(), 0, 1).is_ok());
-    assert!(rt; machine.dispatch(rt.alloc(), 1, 2).is_ok());
-    let held = machine.dispatch(rt.alloc(), 0, 3).err();
+    assert!(rt; refusal(&rt, &mut machine, 0, 1).is_none());
+    assert!(rt; refusal(&rt, &mut machine, 1, 2).is_none());
+    let held = refusal(&rt, &mut machine, 0, 3);
     assert_eq!(rt; held, Some(DispatchError::NotReady { object: 0, by: 1 }));
-    let again = machine.dispatch(rt.alloc(), 1, 1).err();
+    let again = refusal(&rt, &mut machine, 1, 1);
     assert_eq!(rt; again, Some(DispatchError::Already { seat: 0 }));
-    assert_eq!(rt; machine.history().len(), 8);
+    assert_eq!(rt; machine.history(), eight_events().as_slice());
     Ok(())
+}
+
+// Four requests, the first write done whole, and both reads dispatched.
+fn eight_events() -> [Event; 8] {
+    [
+        event(EventKind::Request, 0, 0),
+        event(EventKind::Request, 1, 0),
+        event(EventKind::Request, 2, 0),
+        event(EventKind::Request, 3, 0),
+        event(EventKind::Dispatch, 0, 0),
+        event(EventKind::Release, 0, 0),
+        event(EventKind::Dispatch, 1, 0),
+        event(EventKind::Dispatch, 2, 1),
+    ]
+}
+
+// A machine of two objects, of which entries ask to write the first, the second and the first; and their numbers.
+fn asked_over_two(rt: &HostRuntime) -> Result<(Machine<Small>, [u32; 3]), Fail>
+    ensures plan { IfOk result (λ asked. length asked.0.plan ≡ 3) }
+    ensures opening { IfOk result (λ asked. length asked.0.opening ≡ 2) }
+{
+    let mut machine = opened(rt, 2)?;
+    let first = ask(rt, &mut machine, 0, Mode::Write)?;
+    let second = ask(rt, &mut machine, 1, Mode::Write)?;
+    let third = ask(rt, &mut machine, 0, Mode::Write)?;
+    Ok((machine, [first, second, third]))
 }
 
 #[test]
 fn the_least_ready_entry_over_two_objects(rt: HostRuntime) -> Result<(), Fail> {
-    let mut machine = opened(&rt, 2)?;
-    assert_eq!(rt; ask(&rt, &mut machine, 0, Mode::Write)?, 0);
-    assert_eq!(rt; ask(&rt, &mut machine, 1, Mode::Write)?, 1);
-    assert_eq!(rt; ask(&rt, &mut machine, 0, Mode::Write)?, 2);
+    let (machine, entries) = asked_over_two(&rt)?;
+    assert_eq!(rt; entries, [0, 1, 2]);
     assert_eq!(rt; machine.ready_from(0), Some(0));
     assert_eq!(rt; machine.ready_from(1), Some(1));
     assert_eq!(rt; machine.ready_from(2), None);
     assert_eq!(rt; machine.least_unreleased(), Some(0));
-    run(&rt, &mut machine, 0, 0)?;
-    run(&rt, &mut machine, 0, 1)?;
-    run(&rt, &mut machine, 0, 2)?;
-    assert!(rt; machine.all_released());
+    Ok(())
+}
+
+// The same machine, where all three entries were run in turn.
+fn run_over_two(rt: &HostRuntime) -> Result<Machine<Small>, Fail>
+    ensures plan { IfOk result (λ machine. length machine.plan ≡ 3) }
+{
+    let (mut machine, _) = asked_over_two(rt)?;
+    run(rt, &mut machine, 0, 0)?;
+    run(rt, &mut machine, 0, 1)?;
+    run(rt, &mut machine, 0, 2)?;
+    Ok(machine)
+}
+
+#[test]
+fn objects_and_outcomes_over_two_objects(rt: HostRuntime) -> Result<(), Fail> {
+    let machine = run_over_two(&rt)?;
     assert_eq!(rt; machine.outcome(0).copied(), Some(0));
     assert_eq!(rt; machine.outcome(3).copied(), None);
-    let mut journal = ListJournal::new(rt.alloc());
-    journal.window(rt.alloc(), &machine)?;
-    assert_eq!(rt; journal.windows(), 1);
-    assert_eq!(rt; journal.entries(0).len(), 3);
-    assert_eq!(rt; journal.events(0).len(), 9);
+    assert!(rt; machine.all_released());
     let objects = machine.finish(rt.alloc())?;
     assert_eq!(rt; objects.len(), 2);
     assert_eq!(rt; *objects[0], 2);
     assert_eq!(rt; *objects[1], 1);
     Ok(())
+}
+
+// The journal that was told of the machine's window.
+fn journal_of(rt: &HostRuntime, machine: &Machine<Small>) -> Result<ListJournal, Fail>
+    requires { IsComplete machine.now.plan machine.now.history }
+    ensures { IfOk result (λ journal. length journal ≡ 1) }
+{
+    let mut journal = ListJournal::new(rt.alloc());
+    journal.window(rt.alloc(), machine)?;
+    Ok(journal)
+}
+
+#[test]
+fn a_journal_has_the_entries_and_the_events_of_a_window(rt: HostRuntime) -> Result<(), Fail> {
+    let machine = run_over_two(&rt)?;
+    assert!(rt; machine.all_released());
+    let journal = journal_of(&rt, &machine)?;
+    assert_eq!(rt; journal.windows(), 1);
+    let asked = [(0, 0), (1, 1), (2, 0)];
+    assert_eq!(rt; journal.entries(0).len(), asked.len());
+    for (entry, (statement, object)) in journal.entries(0).iter().zip(asked) {
+        assert_eq!(rt; entry.statement, statement);
+        let mode = Mode::Write;
+        assert_eq!(rt;
+            entry.requests.as_slice(),
+            [Request { object, mode }].as_slice()
+        );
+    }
+    assert_eq!(rt; journal.events(0), nine_events().as_slice());
+    Ok(())
+}
+
+// Three requests, and then each entry dispatched and released in turn.
+fn nine_events() -> [Event; 9] {
+    [
+        event(EventKind::Request, 0, 0),
+        event(EventKind::Request, 1, 0),
+        event(EventKind::Request, 2, 0),
+        event(EventKind::Dispatch, 0, 0),
+        event(EventKind::Release, 0, 0),
+        event(EventKind::Dispatch, 1, 0),
+        event(EventKind::Release, 1, 0),
+        event(EventKind::Dispatch, 2, 0),
+        event(EventKind::Release, 2, 0),
+    ]
 }
 
 #[test]

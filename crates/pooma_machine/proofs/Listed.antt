@@ -1,5 +1,5 @@
 -- What stands at a place of a list, which elements it has, and tests of numbers.
-use Rattle.std.proofs.Common.{◌≡◌, ◌≢◌, ◌↔◌, ◌+◌, ◌<◌, ℕ, zero, suc, true, false, List, [], ◌∷◌, ◌++◌, length, take, drop, set, get_or, Some, None, slice_get, Contains, map, refl, sym, ◌∙◌, ap, subst, arith, inl, inr, ◌⊎◌, ◌==◌}
+use Rattle.std.proofs.Common.{◌≡◌, ◌≢◌, ◌↔◌, ◌+◌, ◌<◌, ℕ, zero, suc, Bool, true, false, find, List, [], ◌∷◌, ◌++◌, length, take, drop, set, get_or, Some, None, slice_get, Contains, map, refl, sym, ◌∙◌, ap, subst, arith, inl, inr, ◌⊎◌, ◌==◌}
 use Rattle.std.proofs.lemmas.Bool.Decides.{eqb_tells}
 use Rattle.std.proofs.lemmas.List.{get_or-map, get_or_default, length-map}
 use Rattle.std.proofs.Math.Seq.{take-append_seam}
@@ -63,6 +63,11 @@ contains_image f (x ∷ xs) y h =
       | inl e ↦ (x, contains_first x xs, e)
       | inr more ↦ let rest = contains_image f xs y more in (rest.0, contains_rest x xs rest.0 rest.1, rest.2)
     ]
+
+-- a search in which nothing passes finds nothing
+pub find_nothing : {X : Type 0} (p : X → Bool) (xs : List X) → ((i : ℕ) (d : X) → i < length xs → p (get_or xs i d) ≡ false) → find p xs ≡ None
+find_nothing p [] none = refl
+find_nothing p (x ∷ xs) none = rw (none 0 x (omega arith)) (find_nothing p xs (λ i d h. none (suc i) d (omega arith)))
 
 -- an element of a list is in it
 pub there_at : {X : Type 0} (xs : List X) (k : ℕ) (d : X) → k < length xs → Contains xs (get_or xs k d)

@@ -1,13 +1,13 @@
 -- Which entries a release made ready: those that it held back over one of its objects, and that nothing holds back now.
-use Rattle.std.proofs.Common.{◌≡◌, ◌≢◌, ◌↔◌, ◌⊎◌, ◌||◌, ◌+◌, ◌<◌, ℕ, suc, Bool, true, false, IsTrue, List, [], ◌∷◌, ◌++◌, length, take, drop, get_or, Contains, All, Option, Some, None, refl, sym, ◌∙◌, ap, subst, arith, inl, inr, nat_lt, cond}
+use Rattle.std.proofs.Common.{◌≡◌, ◌≢◌, ◌↔◌, ◌⊎◌, ◌||◌, ◌+◌, ◌<◌, ℕ, suc, Bool, true, false, IsTrue, List, [], ◌∷◌, ◌++◌, length, take, drop, get_or, slice_get, length-take, Contains, All, Option, Some, None, refl, sym, ◌∙◌, ap, subst, arith, inl, inr, nat_lt, cond}
 use Rattle.std.proofs.lemmas.Bool.Decides.{eqb_tells, leb_tells}
-use Rattle.std.proofs.lemmas.List.{get_or_past, get_or_default}
+use Rattle.std.proofs.lemmas.List.{get_or_past, get_or_default, get_or-take}
+use Rattle.std.proofs.lemmas.Option.{slice_get-get_or, get_or_from_slice_get}
 use Rattle.std.specs.List.{position_or_len, prefix_len}
 use Rattle.pooma_queue.specs.declared.queue.Mode.{Mode}
 use Rattle.pooma_queue.specs.declared.queue.Mode.TheVariants.{Read, Write}
 use Rattle.pooma_queue.specs.declared.queue.Asked.{Asked}
-use Rattle.pooma_queue.specs.Requests.{Waiting, IsInOrder, conflicts, holds_back, front_of, open_part}
-use Rattle.pooma_queue.proofs.Order.{in_order_dropped}
+use Rattle.pooma_queue.specs.Requests.{Waiting, MayGoOn, conflicts, holds_back, front_of, open_part}
 use Rattle.pooma_machine.specs.declared.step.Request.{Request}
 use Rattle.pooma_machine.specs.declared.step.Event.{Event}
 use Rattle.pooma_machine.specs.declared.step.EventKind.TheVariants as kind
@@ -18,7 +18,7 @@ use Rattle.pooma_machine.specs.declared.step.Status.{Status}
 use Rattle.pooma_machine.specs.Lines.{line, IsTied}
 use Rattle.pooma_machine.specs.Kept.{IsKept}
 use Rattle.pooma_machine.proofs.Keeps.{in_range}
-use Rattle.pooma_machine.proofs.Listed.{contains_cases, contains_first, contains_rest, contains_none, is_there, taken_in, dropped_in, taken_more}
+use Rattle.pooma_machine.proofs.Listed.{contains_cases, contains_first, contains_rest, contains_none, is_there, taken_in, dropped_in, taken_more, there_at, find_nothing}
 use Rattle.pooma_machine.proofs.Plans.{status_own, status_other, asks_in_plan}
 use Rattle.pooma_machine.proofs.Ties.{request_of}
 use Rattle.pooma_machine.proofs.Holders.{order_rest, order_first, holding_says}
@@ -30,46 +30,6 @@ pub front_in : (requests : List Asked) (a : Asked) → Contains (front_of reques
 front_in requests a h =
     dropped_in (prefix_len (λ (b : Asked). b.released) requests) requests a
     (taken_in (position_or_len (holds_back Read) (open_part requests) + 1) (open_part requests) a h)
-
--- an open request is in the open part
-pub in_open : (requests : List Asked) (a : Asked) → Contains requests a → a.released ≡ false → Contains (open_part requests) a
-in_open [] a h unreleased = h
-in_open (x ∷ xs) a h unreleased = by (in_open xs a) x.released refl
-  where
-    by : (Contains xs a → a.released ≡ false → Contains (open_part xs) a) → (b : Bool) → x.released ≡ b → Contains (open_part (x ∷ xs)) a
-    by rest true e =
-        let n = prefix_len (λ (b : Asked). b.released) xs in
-        let l : 1 + n ≡ suc n = omega arith in
-        let there : Contains (drop n xs) a = elim (contains_cases x xs a h) [
-          | inl same ↦ absurd (cc (sym unreleased ∙ (ap (λ (b : Asked). b.released) same ∙ e)))
-          | inr more ↦ rest more unreleased
-        ] in
-        subst (λ t. Contains (drop (cond t (1 + n) 0) (x ∷ xs)) a) (sym e) (subst (λ k. Contains (drop k (x ∷ xs)) a) (sym l) there)
-    by rest false e = subst (λ t. Contains (drop (cond t (1 + prefix_len (λ (b : Asked). b.released) xs) 0) (x ∷ xs)) a) (sym e) h
-
--- a request is in a queue up to the first that holds back, where none before it does
-pub in_up_to : (p : Asked → Bool) (xs : List Asked) (a : Asked) → IsInOrder xs → Contains xs a → ((b : Asked) → Contains xs b → b.entry < a.entry → p b ≡ false) → Contains (take (position_or_len p xs + 1) xs) a
-in_up_to p [] a order h before = absurd (contains_none a h)
-in_up_to p (x ∷ xs) a order h before = by (λ more. in_up_to p xs a (order_rest x xs order) more (λ b there. before b (contains_rest x xs b there))) (p x) refl (contains_cases x xs a h)
-  where
-    by : (Contains xs a → Contains (take (position_or_len p xs + 1) xs) a) → (t : Bool) → p x ≡ t → (a ≡ x) ⊎ Contains xs a → Contains (take (position_or_len p (x ∷ xs) + 1) (x ∷ xs)) a
-    by rest true e (inl same) = rw e (subst (Contains (x ∷ take 0 xs)) (sym same) (contains_first x (take 0 xs)))
-    by rest true e (inr more) = absurd (cc (sym e ∙ before x (contains_first x xs) (order_first x xs a order more)))
-    by rest false e (inl same) =
-        let l : 1 + position_or_len p xs + 1 ≡ suc (position_or_len p xs + 1) = omega arith in
-        rw (e, l) (subst (Contains (x ∷ take (position_or_len p xs + 1) xs)) (sym same) (contains_first x (take (position_or_len p xs + 1) xs)))
-    by rest false e (inr more) =
-        let l : 1 + position_or_len p xs + 1 ≡ suc (position_or_len p xs + 1) = omega arith in
-        rw (e, l) (contains_rest x (take (position_or_len p xs + 1) xs) a (rest more))
-
--- an open request is at the front where none before it is to write and open
-pub in_front : (requests : List Asked) (a : Asked) → IsInOrder requests → Contains requests a → a.released ≡ false
-    → ((b : Asked) → Contains requests b → b.entry < a.entry → holds_back Read b ≡ false) → Contains (front_of requests) a
-in_front requests a order h unreleased before =
-    in_up_to (holds_back Read) (open_part requests) a
-    (in_order_dropped requests (prefix_len (λ (b : Asked). b.released) requests) order)
-    (in_open requests a h unreleased)
-    (λ b there. before b (dropped_in (prefix_len (λ (c : Asked). c.released) requests) requests b there))
 
 -- what conflicts one way conflicts the other way
 pub conflicts_back : (one other : Mode) → conflicts one other ≡ conflicts other one
@@ -183,11 +143,6 @@ pub notes_none : (P : ℕ → Type 0) (old : Woken) → ((c : ℕ) → P c → �
 notes_none P old none whole up names = (whole, up, names, λ c. (λ h. inl h, λ h. elim h [ inl there ↦ there | inr p ↦ absurd (none c p) ]))
 
 -- what conflicts with a read conflicts with all
-pub writes_all : (a b : Mode) → conflicts a Read ≡ true → conflicts a b ≡ true
-writes_all Read b e = absurd (cc e)
-writes_all Write Read e = refl
-writes_all Write Write e = refl
-
 -- each entry of a plan whose lists are in form asks in form
 pub form_at : (plan : List (List Request)) (j : ℕ) → All IsRequestList plan → IsRequestList (requests_of plan j)
 form_at plan j form =
@@ -199,41 +154,60 @@ form_at plan j form =
     nothing : IsRequestList []
     nothing i k d lt within = absurd (omega arith)
 
--- the front of a queue has what is freed over its object, and no more
-pub freed_over : (plan : List (List Request)) (history : List Event) (queues : List Waiting) (j object : ℕ) (mode : Mode) (c : ℕ)
+-- a front in which what may go on stands has what is freed over the object, and no more
+pub freed_over : (plan : List (List Request)) (history : List Event) (queues : List Waiting) (front : List Asked) (j object : ℕ) (mode : Mode) (c : ℕ)
+    → front ≡ front_of (line queues object) → ((k : ℕ) (asked : Asked) → MayGoOn (line queues object) k asked → Contains front asked)
     → IsTied plan (λ i. is_released (status_of history i)) queues → All IsRequestList plan → AsksFor plan j object mode
-    → FreedAmong plan history j mode (front_of (line queues object)) c ↔ IsFreedOver plan history j object c
-freed_over plan history queues j object mode c tied form asks = (to, from)
+    → FreedAmong plan history j mode front c ↔ IsFreedOver plan history j object c
+freed_over plan history queues front j object mode c part has tied form asks = (to, from)
   where
-    to : FreedAmong plan history j mode (front_of (line queues object)) c → IsFreedOver plan history j object c
+    to : FreedAmong plan history j mode front c → IsFreedOver plan history j object c
     to (a, there, is, f) =
-        let stands = tied.stands object a (front_in (line queues object) a there) in
+        let stands = tied.stands object a (front_in (line queues object) a (subst (λ xs. Contains xs a) part there)) in
         subst (λ k. IsFreedOver plan history j object k) is (record {
           later = f.later;
           over = record { one = mode; other = a.mode; asks_one = asks; asks_other = stands.0; conflicting = conflicts_back mode a.mode ∙ f.conflicting };
           ready = f.ready;
         })
 
-    from : IsFreedOver plan history j object c → FreedAmong plan history j mode (front_of (line queues object)) c
+    from : IsFreedOver plan history j object c → FreedAmong plan history j mode front c
     from f =
         let a : Asked = record { entry = c; mode = f.over.other; released = is_released (status_of history c) } in
         let there : Contains (line queues object) a = tied.there c object f.over.other f.over.asks_other in
-        let unreleased : is_released (status_of history c) ≡ false = ap is_released f.ready.0 in
         let mine : f.over.one ≡ mode = one_mode (requests_of plan j) object f.over.one mode (form_at plan j form) f.over.asks_one asks in (
           a,
-          in_front (line queues object) a (tied.order object) there unreleased (λ b in_line earlier. free b in_line earlier (holds_back Read b) refl f),
+          has there.0 a (may there.0 there.1 f there.2),
           refl,
           record { later = f.later; conflicting = conflicts_back f.over.other mode ∙ (ap (λ m. conflicts m f.over.other) (sym mine) ∙ f.over.conflicting); ready = f.ready },
         )
       where
-        free : (b : Asked) → Contains (line queues object) b → b.entry < c → (t : Bool) → holds_back Read b ≡ t → IsFreedOver plan history j object c → holds_back Read b ≡ false
-        free b in_line earlier false e g = e
-        free b in_line earlier true e g =
+        asked : IsFreedOver plan history j object c → Asked
+        asked g = record { entry = c; mode = g.over.other; released = is_released (status_of history c) }
+
+        free : (b : Asked) → Contains (line queues object) b → b.entry < c → (g : IsFreedOver plan history j object c) → (t : Bool) → holds_back g.over.other b ≡ t → holds_back g.over.other b ≡ false
+        free b in_line earlier g false e = e
+        free b in_line earlier g true e =
             let stands = tied.stands object b in_line in
-            let says = holding_says Read b e in
-            let over : ConflictOver plan b.entry c object = record { one = b.mode; other = g.over.other; asks_one = stands.0; asks_other = g.over.asks_other; conflicting = writes_all b.mode g.over.other says.1 } in
+            let says = holding_says g.over.other b e in
+            let over : ConflictOver plan b.entry c object = record { one = b.mode; other = g.over.other; asks_one = stands.0; asks_other = g.over.asks_other; conflicting = says.1 } in
             let done : is_released (status_of history b.entry) ≡ true = g.ready.1 b.entry earlier (object, over) in
             absurd (cc (sym says.0 ∙ (stands.1 ∙ done)))
+
+        may : (k : ℕ) → k < length (line queues object) → (g : IsFreedOver plan history j object c) → get_or (line queues object) k (asked g) ≡ asked g → MayGoOn (line queues object) k (asked g)
+        may k within g at =
+            record {
+              there = read;
+              unreleased = ap is_released g.ready.0;
+              granted = rw read (find_nothing (holds_back g.over.other) (take k (line queues object)) (λ i d h.
+                  let below : i < k = omega (arith, length-take k (line queues object)) in
+                  let b = get_or (line queues object) i d in
+                  let earlier : b.entry < (get_or (line queues object) k d).entry = tied.order object i k d below within in
+                  let own : (get_or (line queues object) k d).entry ≡ c = ap (λ (q : Asked). q.entry) (get_or_from_slice_get (line queues object) k (asked g) d read) in
+                  rw (get_or-take k (line queues object) i d below) (free b (there_at (line queues object) i d (omega arith)) (omega arith) g (holds_back g.over.other b) refl)));
+            }
+          where
+            read : slice_get (line queues object) k ≡ Some (asked g)
+            read = slice_get-get_or (line queues object) k (asked g) within ∙ ap Some at
 
 -- an object that an entry asks for is there
 pub object_there : (plan : List (List Request)) (history : List Event) (statuses : List Status) (queues : List Waiting) (j object : ℕ) (mode : Mode) → IsKept plan history statuses queues

@@ -1,5 +1,5 @@
 -- The requests of one object in the order in which they came, and which of them still hold a later one back.
-use Rattle.std.specs.Prelude.{◌≡◌, ◌<◌, ◌+◌, ℕ, Bool, true, false, not, ◌&&◌, List, take, drop, slice_get, Option, None, find, option_and_then, nat_lt, ◌==◌, if◌then◌else◌, AllPairs}
+use Rattle.std.specs.Prelude.{◌≡◌, ◌<◌, ◌+◌, ℕ, Bool, true, false, not, ◌&&◌, List, take, drop, slice_get, Option, Some, None, find, option_and_then, nat_lt, ◌==◌, if◌then◌else◌, AllPairs}
 use Rattle.std.specs.List.{prefix_len, position_or_len}
 use Rattle.pooma_queue.specs.declared.queue.Mode.{Mode}
 use Rattle.pooma_queue.specs.declared.queue.Mode.TheVariants.{Read, Write}
@@ -28,6 +28,12 @@ blocker_of requests k = option_and_then (λ asked. find (holds_back asked.mode) 
 -- no request before the k-th holds it back
 abbrev pub IsGranted : List Asked → ℕ → Type 0
 IsGranted requests k = blocker_of requests k ≡ None
+
+-- this one stands at place k, was not released, and nothing before it holds it back
+pub record MayGoOn (requests : List Asked) (k : ℕ) (asked : Asked) : Type 0 where
+  pub there : slice_get requests k ≡ Some asked
+  pub unreleased : asked.released ≡ false
+  pub granted : IsGranted requests k
 
 -- each request is of a later entry than those before it
 abbrev pub IsInOrder : List Asked → Type 0

@@ -1,7 +1,7 @@
 ghost use Rattle.std.specs.List.{position, position_or_len, take_while};
 ghost use Rattle.pooma_queue.specs.Requests.{holds_back, IsInOrder};
 ghost use Rattle.pooma_queue.specs.declared.queue.Asked.{Asked};
-ghost use Rattle.std.specs.Prelude.{◌≡◌, ◌↔◌, ◌+◌, ◌<◌, ◌≤◌, ◌≢◌, ℕ, List, [], ◌∷◌, ◌++◌, false, nat_lt, length, map, slice_index_or, take, find, All, Some, true, IsTrue, IsOk, IfOk, OnOk, OnErr, IfSome, IsNone, slice_get, slice_set, option_map, vec_len, vec_capacity};
+ghost use Rattle.std.specs.Prelude.{◌≡◌, ◌↔◌, ◌+◌, ◌<◌, ◌≤◌, ◌≢◌, ℕ, List, [], ◌∷◌, ◌++◌, false, nat_lt, length, map, slice_index_or, take, find, All, Contains, Some, true, IsTrue, IsOk, IfOk, OnOk, OnErr, IfSome, IsNone, slice_get, slice_set, option_map, vec_len, vec_capacity};
 
 use std::alloc::{AllocError, Global};
 use std::marker::Model;
@@ -72,7 +72,7 @@ impl Model for Queue {
 }
 
 impl Queue {
-    ghost use Rattle.pooma_queue.specs.Requests.{IsInOrder, IsGranted, blocker_of, front_of, holder_of, holds_back, let_go, released};
+    ghost use Rattle.pooma_queue.specs.Requests.{IsInOrder, IsGranted, MayGoOn, blocker_of, front_of, holder_of, holds_back, let_go, released};
 
     /// A queue with no requests and no room. It takes no memory.
     pub fn new(alloc: Global) -> Queue
@@ -155,10 +155,11 @@ impl Queue {
         first_held(earlier_than(&self.requests[self.first..], entry), mode)
     }
 
-    /// The requests from the first open one, which was not released, up to the first open one that is to write. What may go
-    /// on is among them, since that one holds back each that comes behind it.
+    /// The requests from the first open one, which was not released, up to the first open one that is to write. Each open
+    /// request that may go on is among them, since that one holds back what comes behind it.
     pub fn front(&self) -> &[Asked]
-        ensures { result.now ≡ front_of self.now.requests }
+        ensures requests { result.now ≡ front_of self.now.requests }
+        ensures may_go_on { (k : ℕ) (asked : Asked) → MayGoOn self.now.requests k asked → Contains result.now asked }
     {
         up_to_open_write(&self.requests[self.first..])
     }

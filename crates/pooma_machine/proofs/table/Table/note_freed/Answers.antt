@@ -23,7 +23,7 @@ front-asked-items-requires g c =
 pub is_freed-requires : goal.is_freed-requires
 is_freed-requires g c =
     let d : Asked = record { entry = 0; mode = Read; released = false } in
-    let there = front_in (line c.self.inside.lines c.args.request.object) _ (subst (λ xs. Contains xs (get_or c.front-asked-items.result.now c.loop-asked.asked-index d)) c.front-asked-items.ensures (there_at c.front-asked-items.result.now c.loop-asked.asked-index d c.loop-asked-test.true)) in
+    let there = front_in (line c.self.inside.lines c.args.request.object) _ (subst (λ xs. Contains xs (get_or c.front-asked-items.result.now c.loop-asked.asked-index d)) c.front-asked-items.ensures.requests (there_at c.front-asked-items.result.now c.loop-asked.asked-index d c.loop-asked-test.true)) in
     let long = asks_of_works arc_value g.W.Work.meaning.requests c.self.inside.works.items in
     let below = (asked_in_plan _ (λ i. is_released (status_of c.self.inside.history.items i)) c.self.inside.lines c.args.request.object _ c.self.invariant.0.tied there) in
     rw (← c.self.view_is) (omega (arith, length-map c.self.inside.works.items (arc_value {X = g.row.W.Denot}), long, below))
@@ -46,14 +46,14 @@ pub returns : goal.returns
 returns g c =
     let plan = asks_of g.W.Work.meaning (map arc_value c.self.inside.works.items) in
     let history = c.self.inside.history.items in
-    let queues = c.self.inside.lines in
     let request = c.args.request in
     let kept = c.self.invariant.0 in
+    let front = c.front-asked-items in
     let asks = rw (← c.self.view_is) at c.requires in
-    let seen = take_all c.loop-asked.asked-index c.front-asked-items.result.now c.loop-asked-test.false ∙ c.front-asked-items.ensures in
+    let seen = take_all c.loop-asked.asked-index front.result.now c.loop-asked-test.false in
     let noted = rw (← c.self.view_is) at c.loop-asked.invariant in
     rw (← c.self.view_is) (
-    notes_same (FreedAmong plan history c.args.j request.mode (front_of (line queues request.object))) (IsFreedOver plan history c.args.j request.object) c.args.became.now c.loop-asked.became
-    (λ k. freed_over plan history queues c.args.j request.object request.mode k kept.tied kept.sound.form asks)
+    notes_same (FreedAmong plan history c.args.j request.mode front.result.now) (IsFreedOver plan history c.args.j request.object) c.args.became.now c.loop-asked.became
+    (λ k. freed_over plan history c.self.inside.lines front.result.now c.args.j request.object request.mode k front.ensures.requests front.ensures.may_go_on kept.tied kept.sound.form asks)
     (subst (λ xs. Notes (FreedAmong plan history c.args.j request.mode xs) c.args.became.now c.loop-asked.became) seen noted)
     )
