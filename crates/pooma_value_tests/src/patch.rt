@@ -85,11 +85,27 @@ fn a_box_is_copied_whole(rt: HostRuntime) -> Result<(), Fail> {
     let mut from = Patch::zeros(BoxN::of2(axis(0, 2)?, axis(0, 1)?));
     to.writable(rt.alloc())?;
     from.writable(rt.alloc())?;
-    for (x, y, v) in [(0, 0, 1), (1, 0, 2), (2, 0, 3), (0, 1, 4), (1, 1, 5), (2, 1, 6)] {
+    for (x, y, v) in [
+        (0, 0, 1),
+        (1, 0, 2),
+        (2, 0, 3),
+        (0, 1, 4),
+        (1, 1, 5),
+        (2, 1, 6),
+    ] {
         put(&mut from, Cell::of2(x, y), v);
     }
     copy_common(&mut to, &from);
-    let rows = [(-1, 0, 0), (0, 0, 1), (1, 0, 2), (-1, 1, 0), (0, 1, 4), (1, 1, 5), (0, -1, 0), (0, 2, 0)];
+    let rows = [
+        (-1, 0, 0),
+        (0, 0, 1),
+        (1, 0, 2),
+        (-1, 1, 0),
+        (0, 1, 4),
+        (1, 1, 5),
+        (0, -1, 0),
+        (0, 2, 0),
+    ];
     for (x, y, v) in rows {
         assert_eq!(rt; number(&to, Cell::of2(x, y)), Some(v));
     }
