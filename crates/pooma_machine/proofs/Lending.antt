@@ -86,11 +86,6 @@ pub map_both : {A B C D : Type 0} (f : B → D) (s : A → B) (g : C → D) (h :
 map_both f s g h [] same = refl
 map_both f s g h (x ∷ xs) same = ap (λ y. y ∷ map f (map s xs)) (same x) ∙ ap (λ ys. g (h x) ∷ ys) (map_both f s g h xs same)
 
--- there is not both nothing and something
-pub not_both : {X : Type 0} (o : Option X) → o ≡ None → IsSome o → ⊥
-not_both None none some = absurd (cc some)
-not_both (Some x) none some = absurd (cc none)
-
 -- an element of which all have an image
 pub some_among : {X Y : Type 0} (f : X → Option Y) (front rest : List X) (x : X) → All (λ y. IsSome y) (map f (front ++ x ∷ rest)) → IsSome (f x)
 some_among f [] rest x all = all 0 (f x) (omega arith)

@@ -1,6 +1,6 @@
 ghost use Rattle.std.specs.Prelude.{◌≡◌, ◌↔◌, ◌+◌, ◌-◌, ◌^◌, ◌<◌, ◌≤◌, ℕ, [], ◌∷◌, ◌++◌, Err, slice_get, Some, All, IfOk, OnOk, OnErr, IfErr, IsOk, IsTrue, IfSome, MatchOption, IsOkUnless, is_some, length, map, option_copied};
 ghost use Rattle.std.specs.Arc.{arc_value};
-ghost use Rattle.pooma_machine.specs.Steps.{NoneOut, IsLeastUnreleased, IsLeastReady, IsReady, IsHeldBack, IsDispatchedAt, IsLegal, is_out, is_released, status_of, event_of};
+ghost use Rattle.pooma_machine.specs.Steps.{NoneOut, IsLeastUnreleased, IsLeastReady, IsReady, IsHeldBack, IsDispatchedAt, IsLegal, is_out, is_released, issued, status_of, event_of};
 ghost use Rattle.pooma_machine.specs.Values.{asks_of, values, IsComplete};
 ghost use Rattle.pooma_machine.specs.Slots.{contents};
 ghost use Rattle.pooma_machine.specs.Became.{TellsReady};
@@ -146,10 +146,7 @@ impl<W: Work> Machine<W> {
         ensures lent { IfOk result (λ loan. loan.lent ≡ (values W.meaning self.new.plan self.new.opening self.new.history).lent j) }
     {
         self.table.check(j)?;
-        let Ok(work) = self.table.share_work(j) else {
-            return Err(DispatchError::OutOfMemory);
-        };
-        let Ok(loan) = self.objects.lend(alloc, j, work) else {
+        let Ok(loan) = self.objects.lend(alloc, j, self.table.shared_work(j)) else {
             return Err(DispatchError::OutOfMemory);
         };
         self.table.dispatch(seat, j);
@@ -176,10 +173,11 @@ impl<W: Work> Machine<W> {
         became
     }
 
-    /// What has happened so far. It is legal.
+    /// What has happened so far. It is legal, and has issued the entries of the plan and no others.
     pub fn history(&self) -> &[Event]
         ensures events { result.now ≡ self.now.history }
         ensures legal { IsLegal (asks_of W.meaning self.now.plan) self.now.history }
+        ensures issued { issued self.now.history ≡ length self.now.plan }
     {
         self.table.history()
     }

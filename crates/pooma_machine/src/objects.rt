@@ -5,7 +5,7 @@ ghost use Rattle.pooma_machine.specs.Slots.{content_in, contents, home_at, lent_
 ghost use Rattle.pooma_machine.specs.declared.slot.Slot.{Slot};
 
 use crate::loan::Loan;
-use crate::slot::{Slot, share, take};
+use crate::slot::{Slot, into_shared, share, take};
 use crate::step::Request;
 use crate::work::Work;
 use pooma_queue::Mode;
@@ -45,19 +45,21 @@ impl<W: Work> Objects<W> {
         }
     }
 
-    /// Lends to this entry what its work asks for, which is there and which it fits. After want of memory all are as before.
+    /// Lends to this entry what its work asks for, which is there and which it fits. The loan shares the work. After want of
+    /// memory all are as before.
     pub(crate) fn lend(
         &mut self,
         alloc: Global,
         entry: u32,
-        work: Arc<W>,
+        work: &Arc<W>,
     ) -> Result<Loan<W>, AllocError>
-        requires home { All (λ r. IsSome (home_at self.old r.object)) (W.meaning.requests (arc_value work)) }
-        requires fits { FitsLent W.meaning (arc_value work) (lent_from self.old (W.meaning.requests (arc_value work))) }
-        ensures loan { IfOk result (λ loan. loan ≡ record { entry = entry; work = arc_value work; lent = lent_from self.old (W.meaning.requests (arc_value work)) }) }
-        ensures away { OnOk result (self.new ≡ put_back self.old (written_object (W.meaning.requests (arc_value work))) (Some None)) }
+        requires home { All (λ r. IsSome (home_at self.old r.object)) (W.meaning.requests (arc_value work.now)) }
+        requires fits { FitsLent W.meaning (arc_value work.now) (lent_from self.old (W.meaning.requests (arc_value work.now))) }
+        ensures loan { IfOk result (λ loan. loan ≡ record { entry = entry; work = arc_value work.now; lent = lent_from self.old (W.meaning.requests (arc_value work.now)) }) }
+        ensures away { OnOk result (self.new ≡ put_back self.old (written_object (W.meaning.requests (arc_value work.now))) (Some None)) }
         ensures err { OnErr result (self.new ≡ self.old) }
     {
+        let work = Arc::try_clone(work)?;
         let reads = self.lend_reads(alloc, work.requests())?;
         let written = self.lend_written(alloc, written(work.requests()))?;
         Ok(Loan::new(entry, work, written, reads))
@@ -133,11 +135,7 @@ fn brought_home<W: Work>(
 {
     let mut values = Vec::new(alloc);
     for slot in slots {
-        match slot {
-            Slot::Shared(arc) => values.push(arc)?,
-            Slot::Owned(value) => values.push(Arc::new(alloc, value)?)?,
-            Slot::Away => unreachable!(),
-        }
+        values.push(into_shared::<W>(alloc, slot)?)?;
     }
     Ok(values)
 }

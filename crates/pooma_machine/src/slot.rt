@@ -104,3 +104,18 @@ fn copy_ready<W: Work>(alloc: Global, value: &W::Value) -> Result<W::Value, Allo
     W::prepared(alloc, &mut copy)?;
     Ok(copy)
 }
+
+/// The slot's value, which is there, where others may share it. After want of memory it is given up.
+pub(crate) fn into_shared<W: Work>(
+    alloc: Global,
+    slot: Slot<W::Value>,
+) -> Result<Arc<W::Value>, AllocError>
+    requires { IsSome (content_in W.content slot) }
+    ensures { IfOk result (λ arc. content_in W.content slot ≡ Some (W.content (arc_value arc))) }
+{
+    match slot {
+        Slot::Shared(arc) => Ok(arc),
+        Slot::Owned(value) => Ok(Arc::new(alloc, value)?),
+        Slot::Away => unreachable!(),
+    }
+}

@@ -71,21 +71,24 @@ impl<W: Work> Table<W> {
         ensures objects { self.new.objects ≡ self.old.objects }
     {
         let n = entries as usize;
-        self.works.reserve(n)?;
-        self.statuses.reserve(n)?;
-        let events = 3 * (self.works.len() + n);
-        self.history.reserve(events - self.history.len())?;
+        room_for(
+            alloc,
+            &mut self.works,
+            &mut self.statuses,
+            &mut self.history,
+            n,
+        )?;
         self.lines.reserve(alloc, n)?;
         self.spare = self.spare.max(entries);
         Ok(())
     }
 
-    /// One more owner of the entry's work.
-    pub(crate) fn share_work(&self, j: u32) -> Result<Arc<W>, AllocError>
+    /// The work of the entry, which its loan is to share.
+    pub(crate) fn shared_work(&self, j: u32) -> &Arc<W>
         requires { j < length self.now.plan }
-        ensures { IfOk result (λ work. slice_get self.now.plan j ≡ Some (arc_value work)) }
+        ensures { slice_get self.now.plan j ≡ Some (arc_value result.now) }
     {
-        Arc::try_clone(&self.works[j as usize])
+        &self.works[j as usize]
     }
 
     /// The work of the entry.
@@ -131,6 +134,7 @@ impl<W: Work> Table<W> {
             &mut self.works,
             &mut self.statuses,
             &mut self.history,
+            1,
         ) else {
             return Err(work);
         };
@@ -287,24 +291,25 @@ fn first_unreleased(statuses: &[Status], from: usize) -> usize
     first
 }
 
-// Makes room for one further entry and all its events.
+// Makes room for so many further entries and all their events.
 fn room_for<T>(
     _alloc: Global,
     works: &mut Vec<T>,
     statuses: &mut Vec<Status>,
     history: &mut Vec<Event>,
+    n: usize,
 ) -> Result<(), AllocError>
-    requires few { length works.old.items < 2 ^ 32 }
+    requires few { length works.old.items + n < 2 ^ 33 }
     requires events { length history.old.items ≤ 3 * length works.old.items }
     ensures works { works.new.items ≡ works.old.items }
     ensures statuses { statuses.new.items ≡ statuses.old.items }
     ensures history { history.new.items ≡ history.old.items }
     ensures rooms { (vec_capacity works.old ≤ vec_capacity works.new) × (vec_capacity statuses.old ≤ vec_capacity statuses.new) × (vec_capacity history.old ≤ vec_capacity history.new) }
-    ensures ok { OnOk result ((vec_len works.old + 1 ≤ vec_capacity works.new) × (vec_len statuses.old + 1 ≤ vec_capacity statuses.new) × (3 * (vec_len works.old + 1) ≤ vec_capacity history.new)) }
-    ensures succeeds { vec_len works.old + 1 ≤ vec_capacity works.old → vec_len statuses.old + 1 ≤ vec_capacity statuses.old → 3 * (vec_len works.old + 1) ≤ vec_capacity history.old → IsOk result }
+    ensures ok { OnOk result ((vec_len works.old + n ≤ vec_capacity works.new) × (vec_len statuses.old + n ≤ vec_capacity statuses.new) × (3 * (vec_len works.old + n) ≤ vec_capacity history.new)) }
+    ensures succeeds { vec_len works.old + n ≤ vec_capacity works.old → vec_len statuses.old + n ≤ vec_capacity statuses.old → 3 * (vec_len works.old + n) ≤ vec_capacity history.old → IsOk result }
 {
-    works.reserve(1)?;
-    statuses.reserve(1)?;
-    let events = 3 * (works.len() + 1);
-    history.reserve(events - history.len())
+    let events = 3 * (works.len() + n) - history.len();
+    works.reserve(n)?;
+    statuses.reserve(n)?;
+    history.reserve(events)
 }

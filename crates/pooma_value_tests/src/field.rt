@@ -90,7 +90,7 @@ fn a_corner_goes_by_the_greatest_axis(rt: HostRuntime) -> Result<(), Fail> {
     assert_eq!(rt; shape.outer_axis(&corner), Some(1));
     let along = shape.outer_axis(&corner).ok_or("a cell beside the square")?;
     assert!(rt; has_source(&shape, &corner, along));
-    assert!(rt; source(&shape, &corner, along).is_same(&beside));
+    assert_eq!(rt; source(&shape, &corner, along), beside);
     assert_eq!(rt; shape.outer_axis(&beside), Some(0));
     Ok(())
 }
