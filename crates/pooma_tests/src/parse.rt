@@ -45,206 +45,208 @@ fn repeated(
     Ok(line)
 }
 
+/// Lines with their forms, `blank` or `syntax`.
+const FORMS: [(&[u8], &[u8]); 61] = [
+    (b"", b"blank"),
+    (b" \t\r # A = 1", b"blank"),
+    (
+        b"layout L (0:3) blocks (2)",
+        b"layout L 0:3 blocks 2 in out",
+    ),
+    (b"layout L (-1:3,00:+1) blocks (2)", b"syntax"),
+    (
+        b"layout L (-1:3,00:1) blocks (2,1) internal (1,0) external (8,8)",
+        b"layout L -1:3 0:1 blocks 2 1 in 1 0 out 8 8",
+    ),
+    (
+        b"layout L (0:3) blocks (2) external (1)",
+        b"layout L 0:3 blocks 2 in out 1",
+    ),
+    (
+        b"layout L (0:3) blocks (2) external (1) internal (1)",
+        b"syntax",
+    ),
+    (
+        b"layout L (0:9) cuts ((4,7))",
+        b"layout L 0:9 cuts ( 4 7 ) in out",
+    ),
+    (
+        b"layout L (0:9,0:9) cuts ((),(-3)) internal (1)",
+        b"layout L 0:9 0:9 cuts ( ) ( -3 ) in 1 out",
+    ),
+    (b"layout L (0:9) cuts ()", b"syntax"),
+    (b"layout L (0:9) blocks ()", b"syntax"),
+    (b"layout L (0:9) blocks (-1)", b"syntax"),
+    (b"brick A (0:3)", b"brick A 0:3"),
+    (b"brick A ()", b"syntax"),
+    (b"array A on L", b"array A on L"),
+    (
+        b"field U on L faces periodic, reflect",
+        b"field U on L faces periodic reflect",
+    ),
+    (
+        b"field U on L faces constant -5, constant 5, antireflect, extrapolate",
+        b"field U on L faces -5 5 antireflect extrapolate",
+    ),
+    (b"field U on L faces", b"syntax"),
+    (
+        b"stencil S lower (1) upper (0) = @(0) - @(-1)",
+        b"stencil S lower 1 upper 0 = (- @( 0 ) @( -1 ))",
+    ),
+    (b"stencil S lower (1) upper (0) = A", b"syntax"),
+    (b"stencil S lower (1) upper (0) = index(0)", b"syntax"),
+    (
+        b"stencil S lower (1) upper (0) = where(@(0),1,abs(@(1,2)))",
+        b"stencil S lower 1 upper 0 = (where @( 0 ) 1 (abs @( 1 2 )))",
+    ),
+    (b"A = @(0)", b"syntax"),
+    (b"A = 1", b"A = 1"),
+    (b"A += 1", b"A += 1"),
+    (b"A -= B", b"A -= B"),
+    (b"A *= B", b"A *= B"),
+    (b"A /= B", b"syntax"),
+    (b"A[1,0:3,9:1:-2] = B[-1]", b"A[ 1 0:3:1 9:1:-2 ] = B[ -1 ]"),
+    (b"A[] = 1", b"syntax"),
+    (b"A[1][2] = 1", b"syntax"),
+    (b"A[1:2:3:4] = 1", b"syntax"),
+    (b"A = 1 - 2 - 3", b"A = (- (- 1 2) 3)"),
+    (b"A = 1 / 2 * 3 % 4", b"A = (% (* (/ 1 2) 3) 4)"),
+    (
+        b"A = 1 + 2 * 3 < 4 & 5 | 6 & 7",
+        b"A = (| (& (< (+ 1 (* 2 3)) 4) 5) (& 6 7))",
+    ),
+    (b"A = 1 | 2 & 3 | 4", b"A = (| (| 1 (& 2 3)) 4)"),
+    (b"A = 1 < 2 < 3", b"syntax"),
+    (b"A = 1 < (2 < 3)", b"A = (< 1 (< 2 3))"),
+    (
+        b"A = (1 <= 2) | (3 >= 4) | (5 == 6) | (7 != 8) | (9 > 0)",
+        b"A = (| (| (| (| (<= 1 2) (>= 3 4)) (== 5 6)) (!= 7 8)) (> 9 0))",
+    ),
+    (b"A = -1 * 2", b"A = (* (neg 1) 2)"),
+    (b"A = - - B", b"A = (neg (neg B))"),
+    (b"A = 2 * -B", b"A = (* 2 (neg B))"),
+    (b"A = ((1))", b"A = 1"),
+    (b"A = (1 + 2) * 3", b"A = (* (+ 1 2) 3)"),
+    (
+        b"A = min(1,2) + max(B,C[0])",
+        b"A = (+ (min 1 2) (max B C[ 0 ]))",
+    ),
+    (b"A = where(B,1,index(2))", b"A = (where B 1 index 2)"),
+    (b"A = index(-1)", b"syntax"),
+    (b"A = S(B[0:3])", b"A = S( B[ 0:3:1 ])"),
+    (b"A = S(1)", b"syntax"),
+    (b"A = S(B)(C)", b"syntax"),
+    (b"A = 1 2", b"syntax"),
+    (b"scalar s = 1 + t", b"scalar s = (+ 1 t)"),
+    (b"scalar s = sum(A)", b"scalar s = sum of A"),
+    (b"scalar s = sum(A) + 1", b"syntax"),
+    (b"scalar s = bitor(A & 1)", b"scalar s = bitor of (& A 1)"),
+    (b"print A", b"print A"),
+    (b"print A[0,1]", b"print A[ 0 1 ]"),
+    (b"print A + 1", b"syntax"),
+    (b"block", b"block"),
+    (b"repeat 10", b"repeat 10"),
+    (b"end", b"end"),
+];
+
 // How lines group, by the grammar's own words.
 #[test]
 fn lines_have_their_forms(rt: HostRuntime) -> Result<(), Fail> {
-    let rows: [(&[u8], &[u8]); 61] = [
-        (b"", b"blank"),
-        (b" \t\r # A = 1", b"blank"),
-        (
-            b"layout L (0:3) blocks (2)",
-            b"layout L 0:3 blocks 2 in out",
-        ),
-        (b"layout L (-1:3,00:+1) blocks (2)", b"syntax"),
-        (
-            b"layout L (-1:3,00:1) blocks (2,1) internal (1,0) external (8,8)",
-            b"layout L -1:3 0:1 blocks 2 1 in 1 0 out 8 8",
-        ),
-        (
-            b"layout L (0:3) blocks (2) external (1)",
-            b"layout L 0:3 blocks 2 in out 1",
-        ),
-        (
-            b"layout L (0:3) blocks (2) external (1) internal (1)",
-            b"syntax",
-        ),
-        (
-            b"layout L (0:9) cuts ((4,7))",
-            b"layout L 0:9 cuts ( 4 7 ) in out",
-        ),
-        (
-            b"layout L (0:9,0:9) cuts ((),(-3)) internal (1)",
-            b"layout L 0:9 0:9 cuts ( ) ( -3 ) in 1 out",
-        ),
-        (b"layout L (0:9) cuts ()", b"syntax"),
-        (b"layout L (0:9) blocks ()", b"syntax"),
-        (b"layout L (0:9) blocks (-1)", b"syntax"),
-        (b"brick A (0:3)", b"brick A 0:3"),
-        (b"brick A ()", b"syntax"),
-        (b"array A on L", b"array A on L"),
-        (
-            b"field U on L faces periodic, reflect",
-            b"field U on L faces periodic reflect",
-        ),
-        (
-            b"field U on L faces constant -5, constant 5, antireflect, extrapolate",
-            b"field U on L faces -5 5 antireflect extrapolate",
-        ),
-        (b"field U on L faces", b"syntax"),
-        (
-            b"stencil S lower (1) upper (0) = @(0) - @(-1)",
-            b"stencil S lower 1 upper 0 = (- @( 0 ) @( -1 ))",
-        ),
-        (b"stencil S lower (1) upper (0) = A", b"syntax"),
-        (b"stencil S lower (1) upper (0) = index(0)", b"syntax"),
-        (
-            b"stencil S lower (1) upper (0) = where(@(0),1,abs(@(1,2)))",
-            b"stencil S lower 1 upper 0 = (where @( 0 ) 1 (abs @( 1 2 )))",
-        ),
-        (b"A = @(0)", b"syntax"),
-        (b"A = 1", b"A = 1"),
-        (b"A += 1", b"A += 1"),
-        (b"A -= B", b"A -= B"),
-        (b"A *= B", b"A *= B"),
-        (b"A /= B", b"syntax"),
-        (b"A[1,0:3,9:1:-2] = B[-1]", b"A[ 1 0:3:1 9:1:-2 ] = B[ -1 ]"),
-        (b"A[] = 1", b"syntax"),
-        (b"A[1][2] = 1", b"syntax"),
-        (b"A[1:2:3:4] = 1", b"syntax"),
-        (b"A = 1 - 2 - 3", b"A = (- (- 1 2) 3)"),
-        (b"A = 1 / 2 * 3 % 4", b"A = (% (* (/ 1 2) 3) 4)"),
-        (
-            b"A = 1 + 2 * 3 < 4 & 5 | 6 & 7",
-            b"A = (| (& (< (+ 1 (* 2 3)) 4) 5) (& 6 7))",
-        ),
-        (b"A = 1 | 2 & 3 | 4", b"A = (| (| 1 (& 2 3)) 4)"),
-        (b"A = 1 < 2 < 3", b"syntax"),
-        (b"A = 1 < (2 < 3)", b"A = (< 1 (< 2 3))"),
-        (
-            b"A = (1 <= 2) | (3 >= 4) | (5 == 6) | (7 != 8) | (9 > 0)",
-            b"A = (| (| (| (| (<= 1 2) (>= 3 4)) (== 5 6)) (!= 7 8)) (> 9 0))",
-        ),
-        (b"A = -1 * 2", b"A = (* (neg 1) 2)"),
-        (b"A = - - B", b"A = (neg (neg B))"),
-        (b"A = 2 * -B", b"A = (* 2 (neg B))"),
-        (b"A = ((1))", b"A = 1"),
-        (b"A = (1 + 2) * 3", b"A = (* (+ 1 2) 3)"),
-        (
-            b"A = min(1,2) + max(B,C[0])",
-            b"A = (+ (min 1 2) (max B C[ 0 ]))",
-        ),
-        (b"A = where(B,1,index(2))", b"A = (where B 1 index 2)"),
-        (b"A = index(-1)", b"syntax"),
-        (b"A = S(B[0:3])", b"A = S( B[ 0:3:1 ])"),
-        (b"A = S(1)", b"syntax"),
-        (b"A = S(B)(C)", b"syntax"),
-        (b"A = 1 2", b"syntax"),
-        (b"scalar s = 1 + t", b"scalar s = (+ 1 t)"),
-        (b"scalar s = sum(A)", b"scalar s = sum of A"),
-        (b"scalar s = sum(A) + 1", b"syntax"),
-        (b"scalar s = bitor(A & 1)", b"scalar s = bitor of (& A 1)"),
-        (b"print A", b"print A"),
-        (b"print A[0,1]", b"print A[ 0 1 ]"),
-        (b"print A + 1", b"syntax"),
-        (b"block", b"block"),
-        (b"repeat 10", b"repeat 10"),
-        (b"end", b"end"),
-    ];
-    for (line, expected) in rows {
+    for (line, expected) in FORMS {
         assert_eq!(rt; shown(rt.alloc(), line)?.as_slice(), expected);
     }
     Ok(())
 }
 
-// Of each row the words of a line, and which of them may be left out, doubled, or replaced by `%`.
+/// The words of a line, and which of them may be left out, doubled, or replaced by `%`.
+const WORDS: [(&[&[u8]], &[usize], &[usize], &[usize]); 14] = [
+    (
+        &[
+            b"layout", b"L", b"(", b"0", b":", b"3", b")", b"blocks", b"(", b"2", b")",
+        ],
+        &[],
+        &[],
+        &[],
+    ),
+    (
+        &[
+            b"layout", b"L", b"(", b"-", b"9", b":", b"3", b")", b"cuts", b"(", b"(", b"4", b",",
+            b"7", b")", b")",
+        ],
+        &[3],
+        &[],
+        &[],
+    ),
+    (
+        &[
+            b"brick", b"A", b"(", b"0", b":", b"3", b",", b"1", b":", b"2", b")",
+        ],
+        &[],
+        &[],
+        &[],
+    ),
+    (&[b"array", b"A", b"on", b"L"], &[], &[], &[]),
+    (
+        &[
+            b"field",
+            b"U",
+            b"on",
+            b"L",
+            b"faces",
+            b"constant",
+            b"-",
+            b"1",
+            b",",
+            b"periodic",
+        ],
+        &[6],
+        &[],
+        &[],
+    ),
+    (
+        &[
+            b"stencil", b"S", b"lower", b"(", b"1", b")", b"upper", b"(", b"0", b")", b"=", b"@",
+            b"(", b"0", b")",
+        ],
+        &[11],
+        &[],
+        &[],
+    ),
+    (&[b"A", b"=", b"-", b"1", b"+", b"2"], &[2], &[2], &[4]),
+    (
+        &[b"A", b"[", b"0", b":", b"3", b":", b"2", b"]", b"=", b"B"],
+        &[],
+        &[],
+        &[],
+    ),
+    (
+        &[b"A", b"=", b"min", b"(", b"1", b",", b"(", b"2", b")", b")"],
+        &[],
+        &[],
+        &[],
+    ),
+    (
+        &[
+            b"A", b"=", b"where", b"(", b"B", b",", b"1", b",", b"index", b"(", b"0", b")", b")",
+        ],
+        &[8],
+        &[],
+        &[],
+    ),
+    (
+        &[b"scalar", b"s", b"=", b"max", b"(", b"A", b")"],
+        &[3],
+        &[],
+        &[],
+    ),
+    (&[b"print", b"A", b"[", b"0", b"]"], &[], &[], &[]),
+    (&[b"repeat", b"2"], &[], &[], &[]),
+    (&[b"block"], &[0], &[], &[]),
+];
+
 #[test]
 fn a_word_less_or_more_is_mostly_no_line(rt: HostRuntime) -> Result<(), Fail> {
-    let rows: [(&[&[u8]], &[usize], &[usize], &[usize]); 14] = [
-        (
-            &[
-                b"layout", b"L", b"(", b"0", b":", b"3", b")", b"blocks", b"(", b"2", b")",
-            ],
-            &[],
-            &[],
-            &[],
-        ),
-        (
-            &[
-                b"layout", b"L", b"(", b"-", b"9", b":", b"3", b")", b"cuts", b"(", b"(", b"4",
-                b",", b"7", b")", b")",
-            ],
-            &[3],
-            &[],
-            &[],
-        ),
-        (
-            &[
-                b"brick", b"A", b"(", b"0", b":", b"3", b",", b"1", b":", b"2", b")",
-            ],
-            &[],
-            &[],
-            &[],
-        ),
-        (&[b"array", b"A", b"on", b"L"], &[], &[], &[]),
-        (
-            &[
-                b"field",
-                b"U",
-                b"on",
-                b"L",
-                b"faces",
-                b"constant",
-                b"-",
-                b"1",
-                b",",
-                b"periodic",
-            ],
-            &[6],
-            &[],
-            &[],
-        ),
-        (
-            &[
-                b"stencil", b"S", b"lower", b"(", b"1", b")", b"upper", b"(", b"0", b")", b"=",
-                b"@", b"(", b"0", b")",
-            ],
-            &[11],
-            &[],
-            &[],
-        ),
-        (&[b"A", b"=", b"-", b"1", b"+", b"2"], &[2], &[2], &[4]),
-        (
-            &[b"A", b"[", b"0", b":", b"3", b":", b"2", b"]", b"=", b"B"],
-            &[],
-            &[],
-            &[],
-        ),
-        (
-            &[b"A", b"=", b"min", b"(", b"1", b",", b"(", b"2", b")", b")"],
-            &[],
-            &[],
-            &[],
-        ),
-        (
-            &[
-                b"A", b"=", b"where", b"(", b"B", b",", b"1", b",", b"index", b"(", b"0", b")",
-                b")",
-            ],
-            &[8],
-            &[],
-            &[],
-        ),
-        (
-            &[b"scalar", b"s", b"=", b"max", b"(", b"A", b")"],
-            &[3],
-            &[],
-            &[],
-        ),
-        (&[b"print", b"A", b"[", b"0", b"]"], &[], &[], &[]),
-        (&[b"repeat", b"2"], &[], &[], &[]),
-        (&[b"block"], &[0], &[], &[]),
-    ];
-    for (words, out, twice, replaced) in rows {
+    for (words, out, twice, replaced) in WORDS {
         for k in 0..words.len() {
             let word = words[k];
             let cases: [(&[&[u8]], bool); 3] = [
@@ -262,69 +264,73 @@ fn a_word_less_or_more_is_mostly_no_line(rt: HostRuntime) -> Result<(), Fail> {
     Ok(())
 }
 
+/// The words that are no names.
+const RESERVED: [&[u8]; 41] = [
+    b"layout",
+    b"blocks",
+    b"cuts",
+    b"internal",
+    b"external",
+    b"brick",
+    b"array",
+    b"on",
+    b"field",
+    b"faces",
+    b"constant",
+    b"periodic",
+    b"reflect",
+    b"antireflect",
+    b"extrapolate",
+    b"stencil",
+    b"lower",
+    b"upper",
+    b"scalar",
+    b"print",
+    b"block",
+    b"repeat",
+    b"end",
+    b"index",
+    b"where",
+    b"min",
+    b"max",
+    b"abs",
+    b"sum",
+    b"all",
+    b"any",
+    b"count",
+    b"bitand",
+    b"bitor",
+    b"script",
+    b"when",
+    b"dynamic",
+    b"create",
+    b"destroy",
+    b"backfill",
+    b"shiftup",
+];
+
+/// What stands before a name and behind it.
+const PLACES: [(&[u8], &[u8]); 14] = [
+    (b"layout ", b" (0:3) blocks (2)"),
+    (b"brick ", b" (0:3)"),
+    (b"array ", b" on L"),
+    (b"array A on ", b""),
+    (b"field ", b" on L faces periodic"),
+    (b"field U on ", b" faces periodic"),
+    (b"stencil ", b" lower (1) upper (1) = 1"),
+    (b"", b" = 1"),
+    (b"", b"[0] = 1"),
+    (b"A = ", b""),
+    (b"A = S(", b")"),
+    (b"A = ", b"(B[0])"),
+    (b"scalar ", b" = 1"),
+    (b"print ", b""),
+];
+
 #[test]
 fn reserved_words_are_no_names(rt: HostRuntime) -> Result<(), Fail> {
-    let words: [&[u8]; 41] = [
-        b"layout",
-        b"blocks",
-        b"cuts",
-        b"internal",
-        b"external",
-        b"brick",
-        b"array",
-        b"on",
-        b"field",
-        b"faces",
-        b"constant",
-        b"periodic",
-        b"reflect",
-        b"antireflect",
-        b"extrapolate",
-        b"stencil",
-        b"lower",
-        b"upper",
-        b"scalar",
-        b"print",
-        b"block",
-        b"repeat",
-        b"end",
-        b"index",
-        b"where",
-        b"min",
-        b"max",
-        b"abs",
-        b"sum",
-        b"all",
-        b"any",
-        b"count",
-        b"bitand",
-        b"bitor",
-        b"script",
-        b"when",
-        b"dynamic",
-        b"create",
-        b"destroy",
-        b"backfill",
-        b"shiftup",
-    ];
-    let places: [(&[u8], &[u8]); 14] = [
-        (b"layout ", b" (0:3) blocks (2)"),
-        (b"brick ", b" (0:3)"),
-        (b"array ", b" on L"),
-        (b"array A on ", b""),
-        (b"field ", b" on L faces periodic"),
-        (b"field U on ", b" faces periodic"),
-        (b"stencil ", b" lower (1) upper (1) = 1"),
-        (b"", b" = 1"),
-        (b"", b"[0] = 1"),
-        (b"A = ", b""),
-        (b"A = S(", b")"),
-        (b"A = ", b"(B[0])"),
-        (b"scalar ", b" = 1"),
-        (b"print ", b""),
-    ];
-    for word in words {
-        for (before, behind) in places {
+    for word in RESERVED {
+        for (before, behind) in PLACES {
             let mut line = Vec::from_slice(rt.alloc(), before)?;
             line.extend_from_slice(word)?;
             line.extend_from_slice(behind)?;
@@ -335,31 +341,33 @@ fn reserved_words_are_no_names(rt: HostRuntime) -> Result<(), Fail> {
     Ok(())
 }
 
+/// How a line begins, what is opened, what stands inside, what closes it, and how often it may be opened.
+const NESTED: [(&[u8], &[u8], &[u8], &[u8], usize); 13] = [
+    (b"A = ", b"(", b"1", b")", 64),
+    (b"A = ", b"-", b"1", b"", 64),
+    (b"A = ", b"-(", b"1", b")", 32),
+    (b"A = ", b"abs(", b"1", b")", 64),
+    (b"A = ", b"min(1,", b"2", b")", 64),
+    (b"A = ", b"max(", b"2", b",1)", 64),
+    (b"A = ", b"where(1,2,", b"3", b")", 64),
+    (b"A = ", b"(", b"B[-1]", b")", 64),
+    (b"A = ", b"(", b"index(0)", b")", 63),
+    (b"A = ", b"(", b"S(B)", b")", 63),
+    (
+        b"stencil S lower (1) upper (1) = ",
+        b"(",
+        b"@(-1)",
+        b")",
+        63,
+    ),
+    (b"scalar s = sum(1 + ", b"(", b"1", b")", 64),
+    (b"scalar s = max(2 + ", b"(", b"1", b")", 64),
+];
+
 // What is nested 64 deep is a line, and what is nested 65 deep is none.
 #[test]
 fn nesting_and_length_have_their_limits(rt: HostRuntime) -> Result<(), Fail> {
-    let rows: [(&[u8], &[u8], &[u8], &[u8], usize); 13] = [
-        (b"A = ", b"(", b"1", b")", 64),
-        (b"A = ", b"-", b"1", b"", 64),
-        (b"A = ", b"-(", b"1", b")", 32),
-        (b"A = ", b"abs(", b"1", b")", 64),
-        (b"A = ", b"min(1,", b"2", b")", 64),
-        (b"A = ", b"max(", b"2", b",1)", 64),
-        (b"A = ", b"where(1,2,", b"3", b")", 64),
-        (b"A = ", b"(", b"B[-1]", b")", 64),
-        (b"A = ", b"(", b"index(0)", b")", 63),
-        (b"A = ", b"(", b"S(B)", b")", 63),
-        (
-            b"stencil S lower (1) upper (1) = ",
-            b"(",
-            b"@(-1)",
-            b")",
-            63,
-        ),
-        (b"scalar s = sum(1 + ", b"(", b"1", b")", 64),
-        (b"scalar s = max(2 + ", b"(", b"1", b")", 64),
-    ];
-    for (head, open, inside, close, most) in rows {
+    for (head, open, inside, close, most) in NESTED {
         let end: &[u8] = if head.starts_with(b"scalar") {
             b")"
         } else {
@@ -386,23 +394,25 @@ fn nesting_and_length_have_their_limits(rt: HostRuntime) -> Result<(), Fail> {
     Ok(())
 }
 
+/// Lines with numbers, and whether they are lines.
+const NUMBERS: [(&[u8], bool); 12] = [
+    (b"repeat 999999999", true),
+    (b"repeat 0000999999999", true),
+    (b"repeat 1000000000", false),
+    (b"repeat 99999999999999999999", false),
+    (b"brick A (-999999999:999999999)", true),
+    (b"brick A (-1000000000:0)", false),
+    (b"A = index(1000000000)", false),
+    (b"A[1000000000] = 1", false),
+    (b"A = 9223372036854775807", true),
+    (b"A = -9223372036854775808", false),
+    (b"field U on L faces constant -9223372036854775807", true),
+    (b"field U on L faces constant 9223372036854775808", false),
+];
+
 #[test]
 fn numbers_and_single_bytes(rt: HostRuntime) -> Result<(), Fail> {
-    let rows: [(&[u8], bool); 12] = [
-        (b"repeat 999999999", true),
-        (b"repeat 0000999999999", true),
-        (b"repeat 1000000000", false),
-        (b"repeat 99999999999999999999", false),
-        (b"brick A (-999999999:999999999)", true),
-        (b"brick A (-1000000000:0)", false),
-        (b"A = index(1000000000)", false),
-        (b"A[1000000000] = 1", false),
-        (b"A = 9223372036854775807", true),
-        (b"A = -9223372036854775808", false),
-        (b"field U on L faces constant -9223372036854775807", true),
-        (b"field U on L faces constant 9223372036854775808", false),
-    ];
-    for (line, is_line) in rows {
+    for (line, is_line) in NUMBERS {
         assert_eq!(rt; parse_line(rt.alloc(), line).is_ok(), is_line);
     }
     for byte in 0..=255u8 {
