@@ -1,4 +1,6 @@
 //! Lines with the forms that the language gives them, and lines that it refuses.
+ghost use Rattle.std.specs.Prelude.{◌<◌, length};
+
 use crate::shown::shown;
 use pooma_parse::{LineError, parse_line};
 use std::alloc::{AllocError, Global};
@@ -244,21 +246,27 @@ const WORDS: [(&[&[u8]], &[usize], &[usize], &[usize]); 14] = [
     (&[b"block"], &[0], &[], &[]),
 ];
 
+// Whether the line is one where this word of it is left out, doubled or replaced by `%`.
+fn are_lines(alloc: Global, words: &[&[u8]], k: usize) -> Result<[bool; 3], AllocError>
+    requires { k < length words.now }
+{
+    let word = words[k];
+    let without = changed(alloc, words, k, &[])?;
+    let doubled = changed(alloc, words, k, &[word, word])?;
+    let replaced = changed(alloc, words, k, &[b"%"])?;
+    Ok([
+        parse_line(alloc, &without).is_ok(),
+        parse_line(alloc, &doubled).is_ok(),
+        parse_line(alloc, &replaced).is_ok(),
+    ])
+}
+
 #[test]
 fn a_word_less_or_more_is_mostly_no_line(rt: HostRuntime) -> Result<(), Fail> {
     for (words, out, twice, replaced) in WORDS {
         for k in 0..words.len() {
-            let word = words[k];
-            let cases: [(&[&[u8]], bool); 3] = [
-                (&[], out.contains(&k)),
-                (&[word, word], twice.contains(&k)),
-                (&[b"%"], replaced.contains(&k)),
-            ];
-            for (instead, is_line) in cases {
-                let line = changed(rt.alloc(), words, k, instead)?;
-                let found = parse_line(rt.alloc(), &line);
-                assert_eq!(rt; found.is_ok(), is_line);
-            }
+            let wanted = [out.contains(&k), twice.contains(&k), replaced.contains(&k)];
+            assert_eq!(rt; are_lines(rt.alloc(), words, k)?, wanted);
         }
     }
     Ok(())
@@ -342,7 +350,7 @@ fn reserved_words_are_no_names(rt: HostRuntime) -> Result<(), Fail> {
 }
 
 /// How a line begins, what is opened, what stands inside, what closes it, and how often it may be opened.
-const NESTED: [(&[u8], &[u8], &[u8], &[u8], usize); 13] = [
+const NESTED: [(&[u8], &[u8], &[u8], &[u8], u8); 13] = [
     (b"A = ", b"(", b"1", b")", 64),
     (b"A = ", b"-", b"1", b"", 64),
     (b"A = ", b"-(", b"1", b")", 32),
@@ -364,33 +372,41 @@ const NESTED: [(&[u8], &[u8], &[u8], &[u8], usize); 13] = [
     (b"scalar s = max(2 + ", b"(", b"1", b")", 64),
 ];
 
+// Why a line is none that is nested so deep, if it is none.
+fn refusal(
+    alloc: Global,
+    head: &[u8],
+    open: &[u8],
+    inside: &[u8],
+    close: &[u8],
+    turns: usize,
+) -> Result<Option<LineError>, AllocError> {
+    let mut line = repeated(alloc, head, open, inside, close, turns)?;
+    if head.starts_with(b"scalar") {
+        line.push(b')')?;
+    }
+    Ok(parse_line(alloc, &line).err())
+}
+
 // What is nested 64 deep is a line, and what is nested 65 deep is none.
 #[test]
-fn nesting_and_length_have_their_limits(rt: HostRuntime) -> Result<(), Fail> {
+fn nesting_has_its_limit(rt: HostRuntime) -> Result<(), Fail> {
     for (head, open, inside, close, most) in NESTED {
-        let end: &[u8] = if head.starts_with(b"scalar") {
-            b")"
-        } else {
-            b""
-        };
-        let mut line = repeated(rt.alloc(), head, open, inside, close, most)?;
-        line.extend_from_slice(end)?;
-        assert!(rt; parse_line(rt.alloc(), &line).is_ok());
-        let mut line = repeated(rt.alloc(), head, open, inside, close, most + 1)?;
-        line.extend_from_slice(end)?;
-        assert_eq!(rt;
-            parse_line(rt.alloc(), &line).err(),
-            Some(LineError::Syntax)
-        );
+        let at_most = refusal(rt.alloc(), head, open, inside, close, usize::from(most))?;
+        assert_eq!(rt; at_most, None);
+        let past = refusal(rt.alloc(), head, open, inside, close, usize::from(most) + 1)?;
+        assert_eq!(rt; past, Some(LineError::Syntax));
     }
-    // The deepest tree: 4,096 tokens with as many operators as they can hold, which group to the left.
-    let deepest = repeated(rt.alloc(), b"A=-1", b"+1", b"", b"", 2046)?;
-    assert!(rt; parse_line(rt.alloc(), &deepest).is_ok());
-    let longer = repeated(rt.alloc(), b"A=- -1", b"+1", b"", b"", 2046)?;
-    assert_eq!(rt;
-        parse_line(rt.alloc(), &longer).err(),
-        Some(LineError::Syntax)
-    );
+    Ok(())
+}
+
+// The deepest tree: 4,096 tokens with as many operators as they can hold, which group to the left.
+#[test]
+fn the_deepest_tree_is_made_and_dropped(rt: HostRuntime) -> Result<(), Fail> {
+    let deepest = refusal(rt.alloc(), b"A=-1", b"+1", b"", b"", 2046)?;
+    assert_eq!(rt; deepest, None);
+    let longer = refusal(rt.alloc(), b"A=- -1", b"+1", b"", b"", 2046)?;
+    assert_eq!(rt; longer, Some(LineError::Syntax));
     Ok(())
 }
 
