@@ -1,32 +1,8 @@
 //! Lines with the forms that the language gives them, and lines that it refuses.
-ghost use Rattle.std.specs.Prelude.{◌<◌, length};
-
 use crate::shown::shown;
 use pooma_parse::{LineError, parse_line};
 use std::alloc::{AllocError, Global};
 use std::test::Fail;
-
-/// The line with its words, of which one is left out, doubled or replaced.
-fn changed(
-    alloc: Global,
-    words: &[&[u8]],
-    at: usize,
-    instead: &[&[u8]],
-) -> Result<Vec<u8>, AllocError> {
-    let mut line = Vec::new(alloc);
-    for (k, word) in words.iter().enumerate() {
-        if k != at {
-            line.extend_from_slice(word)?;
-            line.push(b' ')?;
-            continue;
-        }
-        for other in instead {
-            line.extend_from_slice(other)?;
-            line.push(b' ')?;
-        }
-    }
-    Ok(line)
-}
 
 fn repeated(
     alloc: Global,
@@ -156,118 +132,6 @@ const FORMS: [(&[u8], &[u8]); 61] = [
 fn lines_have_their_forms(rt: HostRuntime) -> Result<(), Fail> {
     for (line, expected) in FORMS {
         assert_eq!(rt; shown(rt.alloc(), line)?.as_slice(), expected);
-    }
-    Ok(())
-}
-
-/// The words of a line, and which of them may be left out, doubled, or replaced by `%`.
-const WORDS: [(&[&[u8]], &[usize], &[usize], &[usize]); 14] = [
-    (
-        &[
-            b"layout", b"L", b"(", b"0", b":", b"3", b")", b"blocks", b"(", b"2", b")",
-        ],
-        &[],
-        &[],
-        &[],
-    ),
-    (
-        &[
-            b"layout", b"L", b"(", b"-", b"9", b":", b"3", b")", b"cuts", b"(", b"(", b"4", b",",
-            b"7", b")", b")",
-        ],
-        &[3],
-        &[],
-        &[],
-    ),
-    (
-        &[
-            b"brick", b"A", b"(", b"0", b":", b"3", b",", b"1", b":", b"2", b")",
-        ],
-        &[],
-        &[],
-        &[],
-    ),
-    (&[b"array", b"A", b"on", b"L"], &[], &[], &[]),
-    (
-        &[
-            b"field",
-            b"U",
-            b"on",
-            b"L",
-            b"faces",
-            b"constant",
-            b"-",
-            b"1",
-            b",",
-            b"periodic",
-        ],
-        &[6],
-        &[],
-        &[],
-    ),
-    (
-        &[
-            b"stencil", b"S", b"lower", b"(", b"1", b")", b"upper", b"(", b"0", b")", b"=", b"@",
-            b"(", b"0", b")",
-        ],
-        &[11],
-        &[],
-        &[],
-    ),
-    (&[b"A", b"=", b"-", b"1", b"+", b"2"], &[2], &[2], &[4]),
-    (
-        &[b"A", b"[", b"0", b":", b"3", b":", b"2", b"]", b"=", b"B"],
-        &[],
-        &[],
-        &[],
-    ),
-    (
-        &[b"A", b"=", b"min", b"(", b"1", b",", b"(", b"2", b")", b")"],
-        &[],
-        &[],
-        &[],
-    ),
-    (
-        &[
-            b"A", b"=", b"where", b"(", b"B", b",", b"1", b",", b"index", b"(", b"0", b")", b")",
-        ],
-        &[8],
-        &[],
-        &[],
-    ),
-    (
-        &[b"scalar", b"s", b"=", b"max", b"(", b"A", b")"],
-        &[3],
-        &[],
-        &[],
-    ),
-    (&[b"print", b"A", b"[", b"0", b"]"], &[], &[], &[]),
-    (&[b"repeat", b"2"], &[], &[], &[]),
-    (&[b"block"], &[0], &[], &[]),
-];
-
-// Whether the line is one where this word of it is left out, doubled or replaced by `%`.
-fn are_lines(alloc: Global, words: &[&[u8]], k: usize) -> Result<[bool; 3], AllocError>
-    requires { k < length words.now }
-{
-    let word = words[k];
-    let without = changed(alloc, words, k, &[])?;
-    let doubled = changed(alloc, words, k, &[word, word])?;
-    let replaced = changed(alloc, words, k, &[b"%"])?;
-    Ok([
-        parse_line(alloc, &without).is_ok(),
-        parse_line(alloc, &doubled).is_ok(),
-        parse_line(alloc, &replaced).is_ok(),
-    ])
-}
-
-#[test]
-fn a_word_less_or_more_is_mostly_no_line(rt: HostRuntime) -> Result<(), Fail> {
-    for (words, out, twice, replaced) in WORDS {
-        for k in 0..words.len() {
-            let wanted = [out.contains(&k), twice.contains(&k), replaced.contains(&k)];
-            assert_eq!(rt; are_lines(rt.alloc(), words, k)?, wanted);
-        }
     }
     Ok(())
 }
