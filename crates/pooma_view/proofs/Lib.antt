@@ -3,6 +3,7 @@ pub mod Lines
 pub mod Overlaps
 pub mod Parts
 pub mod Places
+pub mod Restricted
 pub mod Runs
 pub mod SlotLists
 pub mod Solutions

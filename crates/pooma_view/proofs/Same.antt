@@ -9,17 +9,11 @@ use Rattle.std.proofs.lemmas.Slice.Eq.{slice_eq-Decides}
 use Rattle.std.proofs.lemmas.Bool.Decides.{same_from_decides, Decides-and, Decides-like, Decides-int_eq, Decides-eqb}
 use Rattle.pooma_domain.specs.declared.strides.Strided.{Strided}
 use Rattle.pooma_domain.specs.Padding.{first-padded, second-padded, third-padded}
+use Rattle.pooma_view.specs.Restricted.{IsStrided, strided}
 use Rattle.pooma_view.specs.contracts.slots.SlotPartialEq.TheImpl as slot
 use Rattle.pooma_view.specs.Views.{Viewed, IsPaddedView, no_slot}
 use Rattle.pooma_view.specs.declared.slots.Slot.{Slot}
 use Rattle.pooma_view.specs.declared.slots.Slot.TheVariants.{Fixed, Along}
-
--- what holds of a strided axis
-abbrev IsStrided : ℤ → ℤ → ℕ → Type 0
-IsStrided first stride count = (stride ≢ pos 0) × (0 < count) × FitsSigned w32 (first +ℤ stride *ℤ pos (count - 1))
-
-abbrev strided : (first stride : ℤ) (count : ℕ) → IsStrided first stride count → Strided
-strided first stride count h = record { first = first; stride = stride; count = count; moves = h.0; some = h.1; fits = h.2 }
 
 only_one : (first stride : ℤ) (count : ℕ) → IsProp (IsStrided first stride count)
 only_one first stride count = hlevel props

@@ -76,6 +76,7 @@ impl PartialEq for View {
 impl View {
     ghost use Rattle.pooma_view.specs.Slots.{positions_of, cell_named, from_zero};
     ghost use Rattle.pooma_view.specs.Overlap.{NameApart, IsOverlap, AgreesAt, IsEnd};
+    ghost use Rattle.pooma_view.specs.Restricted.{restricted};
 
     /// The view of this array by one to three slots.
     pub fn new(array: u32, slots: &[Slot]) -> View
@@ -186,6 +187,7 @@ impl View {
     /// The view of the positions that lie in the box, counted from 0 again.
     pub fn restrict(&self, b: &BoxN) -> View
         requires { (p : List ℤ) → IsIn b.now p → IsIn (positions_of self.now.slots) p }
+        ensures view { result ≡ restricted self.now b.now }
         ensures array { result.array ≡ self.now.array }
         ensures positions { positions_of result.slots ≡ from_zero b.now }
         ensures cells { (p : List ℤ) → IsIn (from_zero b.now) p

@@ -1,6 +1,8 @@
-use Rattle.std.proofs.Common.{ap}
+use Rattle.std.proofs.Common.{ℕ, List, ap, ap₂}
 use Rattle.pooma_view.specs.Views.{Viewed}
+use Rattle.pooma_view.specs.declared.slots.Slot.{Slot}
 use Rattle.pooma_view.proofs.Parts.{within_corners, restricted}
+use Rattle.pooma_view.proofs.Restricted.{restricted_slots-are}
 use Rattle.pooma_view.proofs.views.View.restrict.Goals as goal
 
 pub later_places-after_x-requires : goal.later_places-after_x-requires
@@ -35,3 +37,10 @@ returns-clause-cells c =
     (restricted _ _ _ _ _ _ _ _ _ _ _ c.self.invariant (ap (λ (v : Viewed). v.slots) c.self.view_is)
     (within_corners _ _ _ _ _ _ _ _ c.self.invariant (ap (λ (v : Viewed). v.slots) c.self.view_is) c.requires c.least-least.ensures.value c.least-least.ensures.inside c.greatest-greatest.ensures.value c.greatest-greatest.ensures.inside)
     c.later_places-after_x.ensures c.later_places-after_y.ensures c.restrict.ensures c.restrict-2.ensures c.restrict-3.ensures).cells
+
+pub returns-clause-view : goal.returns-clause-view
+returns-clause-view c =
+    ap₂ (λ (n : ℕ) (s : List Slot). record { array = n; slots = s })
+    (ap (λ (v : Viewed). v.array) c.self.view_is)
+    (restricted_slots-are _ _ _ _ _ _ _ _ _ _ _ c.self.invariant.few (ap (λ (v : Viewed). v.slots) c.self.view_is)
+    c.later_places-after_x.ensures c.later_places-after_y.ensures c.restrict.ensures c.restrict-2.ensures c.restrict-3.ensures)
