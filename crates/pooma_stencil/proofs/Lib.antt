@@ -1,0 +1,5 @@
+pub mod Axes
+pub mod Expanded
+pub mod Firsts
+pub mod Offsets
+pub mod Trees
