@@ -1,0 +1,11 @@
+pub mod Assigning
+pub mod Declarations
+pub mod Fit
+pub mod Lines
+pub mod Order
+pub mod Parts
+pub mod Reducing
+pub mod Serial
+pub mod Texts
+pub mod Turns
+pub mod Walking
