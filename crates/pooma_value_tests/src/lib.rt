@@ -10,6 +10,8 @@ mod field;
 #[cfg(test)]
 mod layout;
 #[cfg(test)]
+mod model;
+#[cfg(test)]
 mod num;
 #[cfg(test)]
 mod patch;
