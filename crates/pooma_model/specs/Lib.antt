@@ -2,9 +2,12 @@ pub mod Assigning
 pub mod Declarations
 pub mod Fit
 pub mod Lines
+pub mod Midway
 pub mod Order
+pub mod Partitions
 pub mod Parts
 pub mod Reducing
+pub mod Runs
 pub mod Serial
 pub mod Texts
 pub mod Turns

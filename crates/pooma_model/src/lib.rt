@@ -4,6 +4,7 @@
 mod declarations;
 mod draft;
 mod lines;
+mod laws;
 mod program;
 mod statement;
 mod turns;
@@ -11,5 +12,9 @@ mod walk;
 
 pub use draft::Draft;
 pub use program::Program;
+pub use laws::{
+    assignments_change_cells, assignments_in_parts, faults_come_first, masks_choose_values,
+    parts_in_any_order, reads_stand_apart, reductions_in_parts, runs_compose,
+};
 pub use statement::{Action, Statement};
 pub use walk::Walk;

@@ -1,0 +1,43 @@
+-- A statement done in parts: boxes that have each of its positions once, and what positions make where they are given this.
+use Rattle.std.specs.Prelude.{◌≡◌, ◌⊎◌, ◌↔◌, ℤ, Option, List, Any, AllPairs}
+use Rattle.std.specs.List.{filter_map}
+use Rattle.pooma_domain.specs.Cells.{Interval, IsBefore, IsIn}
+use Rattle.pooma_domain.specs.Operations.{HaveCommonCell}
+use Rattle.pooma_num.specs.declared.fault.FaultKind.{FaultKind}
+use Rattle.pooma_view.specs.declared.slots.Slot.{Slot}
+use Rattle.pooma_view.specs.Slots.{cell_named}
+use Rattle.pooma_field.specs.Numbered.{Change}
+use Rattle.pooma_expr.specs.Values.{Checked}
+use Rattle.pooma_model.specs.Assigning.{Fault, Given, Number, Nothing, Fails, Position, change_of, fault_of, first_of}
+use Rattle.pooma_model.specs.Reducing.{number_in}
+
+-- the cells of the whole box are those of these boxes, and no two of them have a common cell
+pub record IsPartition (whole : List Interval) (boxes : List (List Interval)) : Type 0 where
+  pub cells : (p : List ℤ) → IsIn whole p ↔ Any (λ box. IsIn box p) boxes
+  pub apart : AllPairs (λ one other. HaveCommonCell one other → ⊥) boxes
+
+-- the fault of the first of these positions that has one
+abbrev pub fault_at : (List ℤ → Given) → List (List ℤ) → Option Fault
+fault_at given ps = first_of (λ p. fault_of p (given p)) ps
+
+-- what these positions change, each of them the cell that the slots name there
+abbrev pub changes_at : (List ℤ → Given) → List Slot → List (List ℤ) → List Change
+changes_at given slots ps = filter_map (λ p. change_of (cell_named slots p) (given p)) ps
+
+-- the numbers at these positions
+abbrev pub numbers_at : (List ℤ → Checked) → List (List ℤ) → List ℤ
+numbers_at value ps = filter_map (λ p. number_in (value p)) ps
+
+-- the number of a cell after its position was given this
+abbrev pub number_after : Given → ℤ → ℤ
+number_after (Number n) old = n
+number_after Nothing old = old
+number_after (Fails kind) old = old
+
+-- the fault is that of a position of the box, and no position before it has one
+pub record IsFirstFault (given : List ℤ → Given) (box : List Interval) (fault : Fault) : Type 0 where
+  pub position : List ℤ
+  pub place : fault.place ≡ Position position
+  pub inside : IsIn box position
+  pub fails : given position ≡ Fails fault.kind
+  pub first : (q : List ℤ) → IsIn box q → ((kind : FaultKind) × (given q ≡ Fails kind)) → (position ≡ q) ⊎ IsBefore position q
