@@ -4,11 +4,11 @@ use Rattle.std.proofs.lemmas.Bool.{cases_lt}
 use Rattle.std.proofs.lemmas.Int.{ints}
 use Rattle.std.proofs.lemmas.Option.{same_Some, get_or_from_slice_get, slice_get_within}
 use Rattle.std.proofs.lemmas.List.Elements.{All-contains}
-use Rattle.std.specs.Prelude.{◌≡◌, ◌≢◌, ◌⊎◌, ℕ, zero, suc, ◌<◌, ◌≤◌, ℤ, ◌<ℤ◌, Option, Some, None, List, [], ◌∷◌, length, slice_get, Contains, All, Any}
+use Rattle.std.specs.Prelude.{◌≡◌, ◌≢◌, ◌⊎◌, ℕ, zero, suc, ◌<◌, ◌≤◌, ℤ, ◌<ℤ◌, Option, Some, None, IfSome, List, [], ◌∷◌, length, slice_get, Contains, All, Any}
 use Rattle.pooma_num.specs.declared.fault.FaultKind.{FaultKind}
 use Rattle.pooma_domain.specs.Cells.{Interval, cells_of, IsBefore}
 use Rattle.pooma_model.specs.Assigning.{Fault, Given, Number, Nothing, Fails, Position, fault_of, found_or}
-use Rattle.pooma_model.specs.Partitions.{IsFirstFault, IsPartition, fault_at}
+use Rattle.pooma_model.specs.Partitions.{IsFirstFault, IsLeastFault, IsNotEarlier, IsPartition, fault_at}
 use Rattle.pooma_model.proofs.Lists.{Member, member_at, stands_at, member_of, contains_of}
 use Rattle.pooma_model.proofs.Partitioning.{OfCells, is_in, is_cell, any_of, of_any, part_with, within}
 
@@ -153,6 +153,13 @@ box_is known given box fault f =
 
 -- ---- the faults of parts
 
+if_some : {X : Type 0} (o : Option X) (P : X → Type 0) → ((x : X) → o ≡ Some x → P x) → IfSome o P
+if_some None P holds = tt
+if_some (Some x) P holds = holds x refl
+
+at_some : {X : Type 0} (o : Option X) (P : X → Type 0) (x : X) → o ≡ Some x → IfSome o P → P x
+at_some o P x is h = subst (λ q. IfSome q P) is h
+
 every : {X : Type 0} (P : X → Type 0) → (xs : List X) → ((x : X) → Member xs x → P x) → All P xs
 every P xs each k d below = each _ (member_of xs _ (k, below, at xs k d below))
   where
@@ -173,7 +180,7 @@ module _ (known : OfCells) (given : List ℤ → Given) (whole : List Interval) 
       none_fails given (cells_of part.0) (All-contains (λ box. fault_at given (cells_of box) ≡ None) boxes part.0 none (contains_of boxes part.0 part.1)) q kind (is_cell known part.0 q part.2))
 
   -- the part with the position of the fault has the fault
-  pub least_there : (fault : Fault) → fault_at given (cells_of whole) ≡ Some fault → Any (λ box. fault_at given (cells_of box) ≡ Some fault) boxes
+  least_there : (fault : Fault) → fault_at given (cells_of whole) ≡ Some fault → Any (λ box. fault_at given (cells_of box) ≡ Some fault) boxes
   least_there fault e =
       let f = box_found known given whole fault e in
       let part = part_with known whole boxes parts f.position f.inside in
@@ -186,9 +193,9 @@ module _ (known : OfCells) (given : List ℤ → Given) (whole : List Interval) 
       } in
       of_any (λ box. fault_at given (cells_of box) ≡ Some fault) boxes part.0 part.1 (box_is known given part.0 fault there)
 
-  pub none_less : (fault : Fault) (p : List ℤ) → fault.place ≡ Position p → fault_at given (cells_of whole) ≡ Some fault
-      → (box : List Interval) (other : Fault) (q : List ℤ) → Contains boxes box → fault_at given (cells_of box) ≡ Some other → other.place ≡ Position q → (p ≡ q) ⊎ IsBefore p q
-  none_less fault p at e box other q m o there =
+  none_earlier : (fault : Fault) (p : List ℤ) → fault.place ≡ Position p → fault_at given (cells_of whole) ≡ Some fault
+      → (box : List Interval) → Member boxes box → (other : Fault) → fault_at given (cells_of box) ≡ Some other → IsNotEarlier p other
+  none_earlier fault p at e box m other o q there =
       let f = box_found known given whole fault e in
       let g = box_found known given box other o in
       let places_p : Position f.position ≡ Position p = sym f.place ∙ at in
@@ -196,16 +203,25 @@ module _ (known : OfCells) (given : List ℤ → Given) (whole : List Interval) 
       let same_p : f.position ≡ p = cc in
       let same_q : g.position ≡ q = cc in
       subst (λ x. (x ≡ q) ⊎ IsBefore x q) same_p (subst (λ y. (f.position ≡ y) ⊎ IsBefore f.position y) same_q
-      (f.first g.position (within known whole boxes parts box g.position (member_of boxes box m) g.inside) (other.kind, g.fails)))
+      (f.first g.position (within known whole boxes parts box g.position m g.inside) (other.kind, g.fails)))
 
-  pub least_whole : (fault : Fault) (p : List ℤ) → fault.place ≡ Position p → Any (λ box. fault_at given (cells_of box) ≡ Some fault) boxes
-      → ((box : List Interval) (other : Fault) (q : List ℤ) → Contains boxes box → fault_at given (cells_of box) ≡ Some other → other.place ≡ Position q → (p ≡ q) ⊎ IsBefore p q)
-      → fault_at given (cells_of whole) ≡ Some fault
-  least_whole fault p at any least =
-      let there = any_of (λ box. fault_at given (cells_of box) ≡ Some fault) boxes any in
+  pub is_least : (fault : Fault) → fault_at given (cells_of whole) ≡ Some fault → IsLeastFault given boxes fault
+  is_least fault e =
+      let f = box_found known given whole fault e in
+      record {
+        position = f.position;
+        place = f.place;
+        has = least_there fault e;
+        least = every (λ box. IfSome (fault_at given (cells_of box)) (IsNotEarlier f.position)) boxes
+            (λ box m. if_some (fault_at given (cells_of box)) (IsNotEarlier f.position) (none_earlier fault f.position f.place e box m));
+      }
+
+  pub least_is : (fault : Fault) → IsLeastFault given boxes fault → fault_at given (cells_of whole) ≡ Some fault
+  least_is fault l =
+      let there = any_of (λ box. fault_at given (cells_of box) ≡ Some fault) boxes l.has in
       let f = box_found known given there.0 fault there.2 in
-      let places : Position f.position ≡ Position p = sym f.place ∙ at in
-      let same : f.position ≡ p = cc in
+      let places : Position f.position ≡ Position l.position = sym f.place ∙ l.place in
+      let same : f.position ≡ l.position = cc in
       box_is known given whole fault (record {
         position = f.position;
         place = f.place;
@@ -216,7 +232,9 @@ module _ (known : OfCells) (given : List ℤ → Given) (whole : List Interval) 
             ⊎_elim
             (λ some. let g = box_found known given part.0 some.0 some.1 in
             reaches f.position g.position q
-            (subst (λ x. (x ≡ g.position) ⊎ IsBefore x g.position) (sym same) (least part.0 some.0 g.position (contains_of boxes part.0 part.1) some.1 g.place))
+            (subst (λ x. (x ≡ g.position) ⊎ IsBefore x g.position) (sym same)
+            (at_some (fault_at given (cells_of part.0)) (IsNotEarlier l.position) some.0 some.1
+            (All-contains (λ box. IfSome (fault_at given (cells_of box)) (IsNotEarlier l.position)) boxes part.0 l.least (contains_of boxes part.0 part.1)) g.position g.place))
             (g.first q part.2 fails))
             (λ none. absurd (none_fails given (cells_of part.0) none q fails.0 (is_cell known part.0 q part.2) fails.1))
             (some_or_none (fault_at given (cells_of part.0)));

@@ -1,19 +1,20 @@
 -- Worlds keep the arrays and scalars that are declared.
-use Rattle.std.proofs.Common.{refl, ◌∙◌, arith, length-set}
+use Rattle.std.proofs.Common.{refl, sym, ap, subst, ◌∙◌, arith, length-set}
 use Rattle.std.proofs.lemmas.List.{length-map, length-replicate}
 use Rattle.std.specs.Prelude.{◌≡◌, ℕ, zero, suc, ◌<◌, ℤ, pos, Option, Some, None, Ok, Err, List, [], ◌∷◌, length, map, slice_index_or}
-use Rattle.pooma_view.specs.Slots.{positions_of}
+use Rattle.pooma_view.specs.Slots.{cell_named, positions_of}
 use Rattle.pooma_view.specs.Views.{Viewed}
 use Rattle.pooma_field.specs.Numbered.{Numbered, IsFull}
 use Rattle.pooma_field.specs.Shapes.{Shaped, own_area}
-use Rattle.pooma_field.specs.Worlds.{World, changed, opening_world, zeros}
-use Rattle.pooma_domain.specs.Cells.{cells_of}
+use Rattle.pooma_field.specs.Worlds.{World, HasCell, array_of, changed, opening_world, zeros}
+use Rattle.pooma_domain.specs.Cells.{IsIn, cells_of}
 use Rattle.pooma_expr.specs.Values.{Checked}
 use Rattle.pooma_model.specs.declared.statement.Action.{Action}
 use Rattle.pooma_model.specs.declared.statement.Action.TheVariants as action
 use Rattle.pooma_model.specs.declared.statement.Statement.{Statement}
-use Rattle.pooma_model.specs.Assigning.{Fault, Given, assignment_fault, fault_or, given_at}
+use Rattle.pooma_model.specs.Assigning.{Becomes, Fault, Given, assignment_fault, fault_or, given_at}
 use Rattle.pooma_model.specs.Declarations.{Declared}
+use Rattle.pooma_model.specs.Fit.{IsWritable}
 use Rattle.pooma_model.specs.Partitions.{changes_at}
 use Rattle.pooma_model.specs.Reducing.{fault_before, scalar_given}
 use Rattle.pooma_model.specs.Runs.{IsWorldOf, world_after, world_of}
@@ -78,3 +79,18 @@ module _ (numbers : OfNumbers) (worlds : OfWorlds) (declared : Declared) where
   pub world_keeps : (list : List Statement) (world : World) → IsWorldOf declared world → IsWorldOf declared (world_after declared list world)
   world_keeps [] world is = is
   world_keeps (s ∷ rest) world is = world_keeps rest _ (effect_keeps s.action world is)
+
+  pub new_keeps : (act : Action) (world new : World) → IsWorldOf declared world → effect_of declared act world ≡ Becomes new → IsWorldOf declared new
+  new_keeps act world new is e =
+      subst (IsWorldOf declared) (ap (λ effect. world_of effect world) e) (effect_keeps act world is)
+
+-- ---- what a view that may be written names
+
+pub has_there : (declared : Declared) (world : World) (view : Viewed) (p : List ℤ) → IsWorldOf declared world → IsWritable declared view → IsIn (positions_of view.slots) p → HasCell world view.array (cell_named view.slots p)
+has_there declared world view p is may inside = (
+  let there = may.there in let same = is.arrays in omega arith,
+  subst (λ box. IsIn box (cell_named view.slots p)) (sym (is.areas view.array may.there)) (may.cells p inside),
+)
+
+pub full_there : (declared : Declared) (world : World) (view : Viewed) → IsWorldOf declared world → IsWritable declared view → IsFull (array_of world view.array)
+full_there declared world view is may = is.full view.array may.there

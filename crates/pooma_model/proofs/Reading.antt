@@ -125,15 +125,15 @@ in_or_not (axis ∷ axes) (x ∷ xs) =
 
 pub value_midway : OfLooking → (declared : Declared) (target : Viewed) (whole : Expr) (done : List (List ℤ)) (old new : World) (has : Contents) (p : List ℤ) → IsAssignFit declared target whole
     → All (IsIn (positions_of target.slots)) done → IsIn (positions_of target.slots) p → ¬ (Contains done p)
-    → IsMidway target done old new → SeesMidway declared old new has → value old.scalars has whole p ≡ value_in declared old whole p
+    → IsMidway target done old new → All (SeesMidway declared old new has p) (views_of whole) → value old.scalars has whole p ≡ value_in declared old whole p
 value_midway known declared target whole done old new has p fit all_in inside fresh midway sees =
     value_by_reads old.scalars has (seen_in declared old) p whole
     (λ k d h.
     let view = get_or (views_of whole) k d in
     let c = cell_named view.slots p in
     ⊎_elim
-    (λ own. sees.own view c own
+    (λ own. (sees k d h).own own
     ∙ midway view.array c (unwritten declared target whole done p fit all_in inside fresh k d h)
     ∙ sym (own_number known (shape_at declared view.array) (number_of old view.array) c own))
-    (λ external. sees.external view c external)
+    (λ external. (sees k d h).external external)
     (in_or_not (own_area (shape_at declared view.array)) c))

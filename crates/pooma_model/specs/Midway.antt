@@ -16,7 +16,10 @@ IsUnnamed target done array c = array ≡ target.array → All (λ q. cell_named
 abbrev pub IsMidway : Viewed → List (List ℤ) → World → World → Type 0
 IsMidway target done old new = (array : ℕ) (c : List ℤ) → IsUnnamed target done array c → number_of new array c ≡ number_of old array c
 
--- cells with a number of their own are seen as the new world has them, and a field's external cells as the old one gives them
-pub record SeesMidway (declared : Declared) (old new : World) (has : Contents) : Type 0 where
-  pub own : (view : Viewed) (c : List ℤ) → IsIn (own_area (shape_at declared view.array)) c → has view c ≡ number_of new view.array c
-  pub external : (view : Viewed) (c : List ℤ) → ¬ (IsIn (own_area (shape_at declared view.array)) c) → has view c ≡ seen_in declared old view c
+-- The view sees its cell at this position, where that has a number of its own, as the new world has it, and where it is an
+-- external cell of a field as the old world gives it.
+pub record SeesMidway (declared : Declared) (old new : World) (has : Contents) (p : List ℤ) (view : Viewed) : Type 0 where
+  pub own : IsIn (own_area (shape_at declared view.array)) (cell_named view.slots p)
+      → has view (cell_named view.slots p) ≡ number_of new view.array (cell_named view.slots p)
+  pub external : ¬ (IsIn (own_area (shape_at declared view.array)) (cell_named view.slots p))
+      → has view (cell_named view.slots p) ≡ seen_in declared old view (cell_named view.slots p)

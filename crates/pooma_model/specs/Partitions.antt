@@ -1,7 +1,7 @@
 -- A statement done in parts: boxes that have each of its positions once, and what positions make where they are given this.
-use Rattle.std.specs.Prelude.{◌≡◌, ◌⊎◌, ◌↔◌, ℤ, Option, List, Any, AllPairs}
+use Rattle.std.specs.Prelude.{◌≡◌, ◌⊎◌, ◌↔◌, ℤ, Option, Some, IfSome, List, All, Any, AllPairs}
 use Rattle.std.specs.List.{filter_map}
-use Rattle.pooma_domain.specs.Cells.{Interval, IsBefore, IsIn}
+use Rattle.pooma_domain.specs.Cells.{Interval, IsBefore, IsIn, cells_of}
 use Rattle.pooma_domain.specs.Operations.{HaveCommonCell}
 use Rattle.pooma_num.specs.declared.fault.FaultKind.{FaultKind}
 use Rattle.pooma_view.specs.declared.slots.Slot.{Slot}
@@ -34,6 +34,10 @@ number_after (Number n) old = n
 number_after Nothing old = old
 number_after (Fails kind) old = old
 
+-- the fault is at this position or at a later one
+abbrev pub IsNotEarlier : List ℤ → Fault → Type 0
+IsNotEarlier p fault = (q : List ℤ) → fault.place ≡ Position q → (p ≡ q) ⊎ IsBefore p q
+
 -- the fault is that of a position of the box, and no position before it has one
 pub record IsFirstFault (given : List ℤ → Given) (box : List Interval) (fault : Fault) : Type 0 where
   pub position : List ℤ
@@ -41,3 +45,10 @@ pub record IsFirstFault (given : List ℤ → Given) (box : List Interval) (faul
   pub inside : IsIn box position
   pub fails : given position ≡ Fails fault.kind
   pub first : (q : List ℤ) → IsIn box q → ((kind : FaultKind) × (given q ≡ Fails kind)) → (position ≡ q) ⊎ IsBefore position q
+
+-- the fault is that of one of the boxes, and none of them has one at an earlier position
+pub record IsLeastFault (given : List ℤ → Given) (boxes : List (List Interval)) (fault : Fault) : Type 0 where
+  pub position : List ℤ
+  pub place : fault.place ≡ Position position
+  pub has : Any (λ box. fault_at given (cells_of box) ≡ Some fault) boxes
+  pub least : All (λ box. IfSome (fault_at given (cells_of box)) (IsNotEarlier position)) boxes

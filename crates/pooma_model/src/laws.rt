@@ -1,22 +1,25 @@
-ghost use Rattle.std.specs.Prelude.{◌≡◌, ◌≢◌, ◌⊎◌, ◌↔◌, ℕ, ◌+◌, ◌<◌, true, false, ℤ, Option, Some, None, List, [], ◌∷◌, ◌++◌, length, take, drop, fold, flat_map, slice_get, All, Any, Contains};
+ghost use Rattle.std.specs.Prelude.{◌≡◌, ◌≢◌, ◌↔◌, ℕ, ◌+◌, true, false, ℤ, Option, Some, None, List, [], ◌++◌, take, fold, flat_map, slice_get, All, Contains};
 ghost use Rattle.std.specs.List.Sorted.{IsPermutation};
-ghost use Rattle.pooma_domain.specs.Cells.{Interval, IsBefore, IsIn, cells_of};
+ghost use Rattle.pooma_domain.specs.Cells.{Interval, IsIn, cells_of};
 ghost use Rattle.pooma_view.specs.Slots.{cell_named, positions_of};
 ghost use Rattle.pooma_view.specs.Views.{Viewed};
 ghost use Rattle.pooma_field.specs.Numbered.{IsFull};
+ghost use Rattle.pooma_field.specs.Shapes.{own_area};
 ghost use Rattle.pooma_field.specs.Worlds.{World, HasCell, array_of, number_of, changed, opening_world};
 ghost use Rattle.pooma_expr.specs.declared.reduction.Reduction.{Reduction};
 ghost use Rattle.pooma_expr.specs.declared.tree.Expr.{Expr};
 ghost use Rattle.pooma_expr.specs.Reductions.{AllFit, result_over};
 ghost use Rattle.pooma_expr.specs.Trees.{views_of};
 ghost use Rattle.pooma_expr.specs.Values.{Checked, Contents, value};
+ghost use Rattle.pooma_model.specs.declared.statement.Action.{Action};
 ghost use Rattle.pooma_model.specs.declared.statement.Action.TheVariants as action;
 ghost use Rattle.pooma_model.specs.declared.statement.Statement.{Statement};
-ghost use Rattle.pooma_model.specs.Assigning.{Becomes, Fault, Given, Position, assigned, given_at, whole_value};
-ghost use Rattle.pooma_model.specs.Declarations.{Declared, value_in};
-ghost use Rattle.pooma_model.specs.Fit.{IsAssignFit, IsFit};
+ghost use Rattle.pooma_model.specs.Assigning.{Becomes, Faults, Fault, Given, assigned, given_at, whole_value};
+ghost use Rattle.pooma_model.specs.Declarations.{Declared, seen_in, shape_at, value_in};
+ghost use Rattle.pooma_model.specs.Fit.{IsAssignFit, IsFit, IsWritable};
 ghost use Rattle.pooma_model.specs.Midway.{IsMidway, IsUnnamed, SeesMidway};
-ghost use Rattle.pooma_model.specs.Partitions.{IsFirstFault, IsPartition, changes_at, fault_at, number_after, numbers_at};
+ghost use Rattle.pooma_model.specs.Partitions.{IsFirstFault, IsLeastFault, IsPartition, changes_at, fault_at, number_after, numbers_at};
+ghost use Rattle.pooma_model.specs.Reducing.{reduced, scalar_given, values_over};
 ghost use Rattle.pooma_model.specs.Runs.{IsWorldOf, followed_by, with_effect, world_after, world_of};
 ghost use Rattle.pooma_model.specs.Serial.{effect_of, printed, serial};
 
@@ -69,10 +72,14 @@ pub fn masks_choose_values()
 /// Reads, as a law for proofs: the value at a position depends on what is seen at the cells that its views name there, and
 /// an assignment that does not overlap itself names none of those at another position. So its value at a position is the
 /// same before and after it is done at others, where the external cells of fields are seen as they were.
+///
+/// `done` are positions at which it is done, `old` is the world before it, and `new` is one on the way.
 pub fn reads_stand_apart()
     ensures by_reads { (scalars : List ℤ) (has other : Contents) (e : Expr) (p : List ℤ)
         → All (λ view. has view (cell_named view.slots p) ≡ other view (cell_named view.slots p)) (views_of e)
         → value scalars has e p ≡ value scalars other e p }
+    ensures own { (declared : Declared) (world : World) (view : Viewed) (c : List ℤ) → IsIn (own_area (shape_at declared view.array)) c
+        → seen_in declared world view c ≡ number_of world view.array c }
     ensures unwritten { (declared : Declared) (target : Viewed) (whole : Expr) (done : List (List ℤ)) (p : List ℤ)
         → IsAssignFit declared target whole → All (IsIn (positions_of target.slots)) done
         → IsIn (positions_of target.slots) p → ¬ (Contains done p)
@@ -80,7 +87,7 @@ pub fn reads_stand_apart()
     ensures midway { (declared : Declared) (target : Viewed) (whole : Expr) (done : List (List ℤ)) (old new : World) (has : Contents) (p : List ℤ)
         → IsAssignFit declared target whole → All (IsIn (positions_of target.slots)) done
         → IsIn (positions_of target.slots) p → ¬ (Contains done p)
-        → IsMidway target done old new → SeesMidway declared old new has
+        → IsMidway target done old new → All (SeesMidway declared old new has p) (views_of whole)
         → value old.scalars has whole p ≡ value_in declared old whole p }
     ensures begins { (target : Viewed) (world : World) → IsMidway target [] world world }
     ensures goes_on { (target : Viewed) (done more : List (List ℤ)) (old new : World) (given : List ℤ → Given)
@@ -92,19 +99,15 @@ pub fn reads_stand_apart()
     worlds_change();
 }
 
-/// Faults, as a law for proofs: which one a box of positions has, and that of boxes which are the parts of one the least
-/// fault is that of the whole.
+/// Faults, as a law for proofs: that of a box of positions is at the first of them that has one, and that of boxes which are
+/// the parts of one is the least of theirs. `given` is what the positions are given.
 pub fn faults_come_first()
     ensures found { (given : List ℤ → Given) (box : List Interval) (fault : Fault)
         → (fault_at given (cells_of box) ≡ Some fault) ↔ IsFirstFault given box fault }
     ensures none { (given : List ℤ → Given) (whole : List Interval) (boxes : List (List Interval)) → IsPartition whole boxes
         → (fault_at given (cells_of whole) ≡ None) ↔ All (λ box. fault_at given (cells_of box) ≡ None) boxes }
-    ensures least { (given : List ℤ → Given) (whole : List Interval) (boxes : List (List Interval)) (fault : Fault) (p : List ℤ)
-        → IsPartition whole boxes → fault.place ≡ Position p
-        → (fault_at given (cells_of whole) ≡ Some fault)
-        ↔ (Any (λ box. fault_at given (cells_of box) ≡ Some fault) boxes
-        × ((box : List Interval) (other : Fault) (q : List ℤ) → Contains boxes box → fault_at given (cells_of box) ≡ Some other
-        → other.place ≡ Position q → (p ≡ q) ⊎ IsBefore p q)) }
+    ensures least { (given : List ℤ → Given) (whole : List Interval) (boxes : List (List Interval)) (fault : Fault) → IsPartition whole boxes
+        → (fault_at given (cells_of whole) ≡ Some fault) ↔ IsLeastFault given boxes fault }
     ensures same { (given other : List ℤ → Given) (box : List Interval) → ((p : List ℤ) → IsIn box p → given p ≡ other p)
         → fault_at given (cells_of box) ≡ fault_at other (cells_of box) }
 {
@@ -112,16 +115,23 @@ pub fn faults_come_first()
 }
 
 /// Assignments in parts, as a law for proofs: what boxes that are the parts of the positions change, one after another in
-/// any order, is what the assignment changes, where all are given the same. `given` is what the positions are given.
+/// any order, is what the assignment changes, where no box has a fault. Else its fault is the least of theirs. All are given
+/// what the positions have in the world before.
 pub fn assignments_in_parts()
+    ensures becomes { (declared : Declared) (target : Viewed) (value : Expr) (mask : Option Expr) (boxes : List (List Interval)) (world : World)
+        → IsFull (array_of world target.array) → IsPartition (positions_of target.slots) boxes
+        → All (λ box. fault_at (given_at declared world value mask) (cells_of box) ≡ None) boxes
+        → assigned declared target value mask world
+        ≡ Becomes (fold (λ now box. changed now target.array (changes_at (given_at declared world value mask) target.slots (cells_of box))) world boxes) }
+    ensures faults { (declared : Declared) (target : Viewed) (value : Expr) (mask : Option Expr) (boxes : List (List Interval)) (world : World) (fault : Fault)
+        → IsPartition (positions_of target.slots) boxes → IsLeastFault (given_at declared world value mask) boxes fault
+        → assigned declared target value mask world ≡ Faults fault }
     ensures world { (target : Viewed) (given : List ℤ → Given) (boxes : List (List Interval)) (world : World)
         → IsFull (array_of world target.array) → IsPartition (positions_of target.slots) boxes
         → fold (λ now box. changed now target.array (changes_at given target.slots (cells_of box))) world boxes
         ≡ changed world target.array (changes_at given target.slots (cells_of (positions_of target.slots))) }
     ensures same { (given other : List ℤ → Given) (target : Viewed) (box : List Interval) → ((p : List ℤ) → IsIn box p → given p ≡ other p)
         → changes_at given target.slots (cells_of box) ≡ changes_at other target.slots (cells_of box) }
-    ensures no_cells { (target : Viewed) (given : List ℤ → Given) (world : World)
-        → changed world target.array (changes_at given target.slots []) ≡ world }
 {
     order_of_cells();
     numbers_of_cells();
@@ -130,8 +140,17 @@ pub fn assignments_in_parts()
 }
 
 /// Reductions in parts, as a law for proofs: the numbers of boxes that are the parts of one, one list after another in any
-/// order, come to what those of the whole come to. So the parts' partials, merged in any order, finish as the whole list.
+/// order, come to what those of the whole come to, where no box has a fault. So the parts' partials, merged in any order,
+/// finish as the reduction. Else its fault is the least of theirs.
 pub fn reductions_in_parts()
+    ensures finishes { (declared : Declared) (scalar : ℕ) (reduction : Reduction) (positions : List Interval) (value : Expr) (boxes : List (List Interval)) (world : World)
+        → IsPartition positions boxes → All (λ box. fault_at (given_at declared world value None) (cells_of box) ≡ None) boxes
+        → AllFit (flat_map (λ box. values_over declared world box value) boxes)
+        → reduced declared scalar reduction positions value world
+        ≡ scalar_given world scalar (result_over reduction (flat_map (λ box. values_over declared world box value) boxes)) }
+    ensures faults { (declared : Declared) (scalar : ℕ) (reduction : Reduction) (positions : List Interval) (value : Expr) (boxes : List (List Interval)) (world : World) (fault : Fault)
+        → IsPartition positions boxes → IsLeastFault (given_at declared world value None) boxes fault
+        → reduced declared scalar reduction positions value world ≡ Faults fault }
     ensures result { (value : List ℤ → Checked) (whole : List Interval) (boxes : List (List Interval)) (reduction : Reduction) → IsPartition whole boxes
         → AllFit (flat_map (λ box. numbers_at value (cells_of box)) boxes)
         → result_over reduction (flat_map (λ box. numbers_at value (cells_of box)) boxes) ≡ result_over reduction (numbers_at value (cells_of whole)) }
@@ -147,8 +166,8 @@ pub fn parts_in_any_order()
         → IsPartition whole boxes → IsPartition whole others }
 {}
 
-/// Runs, as a law for proofs: a front of the statements and then the rest is all of them, where the front has no fault, and
-/// it is the front alone where it has one. Worlds keep their arrays and scalars.
+/// Runs, as a law for proofs: a front of the statements and then the rest is all of them where the front has no fault, and
+/// it is the front alone where it has one.
 pub fn runs_compose()
     ensures front { (declared : Declared) (front rest : List Statement) (world : World) → (serial declared front world).faulted ≡ false
         → serial declared (front ++ rest) world
@@ -168,11 +187,20 @@ pub fn runs_compose()
     ensures next_world { (declared : Declared) (list : List Statement) (world : World) (j : ℕ) (s : Statement) → slice_get list j ≡ Some s
         → world_after declared (take (j + 1) list) world
         ≡ world_of (effect_of declared s.action (world_after declared (take j list) world)) (world_after declared (take j list) world) }
+{}
 
-    // The opening world has the declared arrays and scalars, and a world keeps them.
+/// Worlds along a run, as a law for proofs: each has the declared arrays, with a number for each cell of their own, and the
+/// declared scalars. So it has what a view that may be written names.
+pub fn worlds_keep_cells()
     ensures opening { (declared : Declared) → IsWorldOf declared (opening_world declared.shapes declared.scalars) }
     ensures kept { (declared : Declared) (list : List Statement) (world : World) → IsWorldOf declared world
         → IsWorldOf declared (world_after declared list world) }
+    ensures one { (declared : Declared) (act : Action) (world new : World) → IsWorldOf declared world
+        → effect_of declared act world ≡ Becomes new → IsWorldOf declared new }
+    ensures has { (declared : Declared) (world : World) (view : Viewed) (p : List ℤ) → IsWorldOf declared world → IsWritable declared view
+        → IsIn (positions_of view.slots) p → HasCell world view.array (cell_named view.slots p) }
+    ensures full { (declared : Declared) (world : World) (view : Viewed) → IsWorldOf declared world → IsWritable declared view
+        → IsFull (array_of world view.array) }
 {
     numbers_of_cells();
     worlds_change();

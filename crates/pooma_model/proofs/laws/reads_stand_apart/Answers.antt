@@ -1,7 +1,9 @@
 use Rattle.std.proofs.Common.{refl}
+use Rattle.pooma_field.specs.Worlds.{number_of}
+use Rattle.pooma_model.specs.Declarations.{shape_at}
 use Rattle.pooma_model.proofs.Assigned.{OfWorlds, goes_on}
 use Rattle.pooma_model.proofs.Changing.{OfNumbers}
-use Rattle.pooma_model.proofs.Reading.{OfLooking, unwritten, value_by_reads, value_midway}
+use Rattle.pooma_model.proofs.Reading.{OfLooking, own_number, unwritten, value_by_reads, value_midway}
 use Rattle.pooma_model.proofs.laws.reads_stand_apart.Goals as goal
 
 numbers : (c : goal.After-worlds_change) → OfNumbers
@@ -22,6 +24,7 @@ looking c = record { plain = c.looking_up.ensures.plain; physical = c.looking_up
 pub returns : goal.returns
 returns c = record {
   by_reads = λ scalars has other e p. value_by_reads scalars has other p e;
+  own = λ declared world view cell inside. own_number (looking c) (shape_at declared view.array) (number_of world view.array) cell inside;
   unwritten = unwritten;
   midway = value_midway (looking c);
   begins = λ target world array cell none. refl;
