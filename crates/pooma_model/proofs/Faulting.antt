@@ -4,7 +4,7 @@ use Rattle.std.proofs.lemmas.Bool.{cases_lt}
 use Rattle.std.proofs.lemmas.Int.{ints}
 use Rattle.std.proofs.lemmas.Option.{same_Some, get_or_from_slice_get, slice_get_within}
 use Rattle.std.proofs.lemmas.List.Elements.{All-contains}
-use Rattle.std.specs.Prelude.{◌≡◌, ◌≢◌, ◌⊎◌, ℕ, zero, suc, ◌<◌, ◌≤◌, ℤ, ◌<ℤ◌, Option, Some, None, IfSome, List, [], ◌∷◌, length, slice_get, Contains, All, Any}
+use Rattle.std.specs.Prelude.{◌≡◌, ◌≢◌, ◌⊎◌, ℕ, zero, suc, ◌<◌, ◌≤◌, ℤ, ◌<ℤ◌, Option, Some, None, IfSome, List, [], ◌∷◌, length, slice_get, All, Any}
 use Rattle.pooma_num.specs.declared.fault.FaultKind.{FaultKind}
 use Rattle.pooma_domain.specs.Cells.{Interval, cells_of, IsBefore}
 use Rattle.pooma_model.specs.Assigning.{Fault, Given, Number, Nothing, Fails, Position, fault_of, found_or}

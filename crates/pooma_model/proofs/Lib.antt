@@ -16,4 +16,5 @@ pub mod Reading
 pub mod Running
 pub mod Stepping
 pub mod Walks
+mod Worked
 mod WorkedOrder
