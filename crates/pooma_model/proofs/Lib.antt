@@ -1,5 +1,6 @@
 pub mod Assigned
 pub mod Changing
+pub mod CutParts
 pub mod DraftLines
 pub mod Drafting
 pub mod Ending

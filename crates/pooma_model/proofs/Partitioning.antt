@@ -1,16 +1,17 @@
 -- The cells of boxes that are the parts of one: each of its cells, once.
 use Rattle.std.proofs.Common.{refl, sym, ap, ◌∙◌, subst, inl, inr, ⊎_elim, arith, get_or}
 use Rattle.std.proofs.lemmas.Bool.{cases_eq, cases_lt}
+use Rattle.std.proofs.lemmas.List.Elements.{All-contains}
 use Rattle.std.proofs.lemmas.List.Edits.{length-swap, swapped_from_swap}
 use Rattle.std.proofs.lemmas.List.Sorted.{Contains-permutation, IsPermutation-keeps, IsPermutation-sym}
 use Rattle.std.proofs.lemmas.Option.{get_or_from_slice_get, slice_get_within}
 use Rattle.std.specs.List.{swap}
 use Rattle.std.specs.List.Sorted.{IsPermutation}
-use Rattle.std.specs.Prelude.{◌≡◌, ◌≢◌, ◌⊎◌, ◌↔◌, ℕ, zero, suc, ◌<◌, ℤ, Some, List, [], ◌∷◌, length, slice_get, Contains, flat_map, Any, AllPairs}
+use Rattle.std.specs.Prelude.{◌≡◌, ◌≢◌, ◌⊎◌, ◌↔◌, ℕ, zero, suc, ◌<◌, ℤ, Some, List, [], ◌∷◌, length, slice_get, Contains, flat_map, All, Any, AllPairs}
 use Rattle.pooma_domain.specs.Cells.{Interval, cells_of, IsBefore, IsIn}
 use Rattle.pooma_domain.specs.Operations.{HaveCommonCell}
-use Rattle.pooma_model.specs.Partitions.{IsPartition}
-use Rattle.pooma_model.proofs.Lists.{Member, Distinct, stands_at, member_of, contains_of, member_left, member_right, member_cases, distinct_by_places, distinct_joined}
+use Rattle.pooma_model.specs.Partitions.{IsOfOthers, IsPartition}
+use Rattle.pooma_model.proofs.Lists.{Member, Distinct, stands_at, member_of, contains_of, member_left, member_right, member_cases, distinct_by_places, distinct_joined, member_at}
 
 -- what the law on the order of cells tells
 pub record OfCells : Type 0 where
@@ -144,3 +145,20 @@ parts_moved whole boxes others moved parts = record {
   apart = λ i j d less below.
       IsPermutation-keeps boxes NoneMeet (none_meet boxes parts.apart) swap_keeps others moved i j d (let differ : i ≢ j = omega arith in differ) (omega arith) below;
 }
+
+-- ---- positions of other parts
+
+module _ (whole : List Interval) (boxes : List (List Interval)) (parts : IsPartition whole boxes) (k : ℕ) (done : List (List ℤ)) (others : All (IsOfOthers boxes k) done) where
+  pub others_within : All (IsIn whole) done
+  others_within i d below =
+      let there = others i d below in
+      (parts.cells (get_or done i d)).1 (of_any (λ box. IsIn box (get_or done i d)) boxes there.1 (member_at boxes there.0 there.1 there.3) there.4)
+
+  pub others_apart : (box : List Interval) (p : List ℤ) → slice_get boxes k ≡ Some box → IsIn box p → ¬ (Contains done p)
+  others_apart box p at inside has =
+      let there = All-contains (IsOfOthers boxes k) done p others has in
+      none_meet boxes parts.apart there.0 k box there.2 (slice_get_within boxes there.0 there.1 there.3) (slice_get_within boxes k box at) (
+        p,
+        subst (λ b. IsIn b p) (sym (get_or_from_slice_get boxes there.0 there.1 box there.3)) there.4,
+        subst (λ b. IsIn b p) (sym (get_or_from_slice_get boxes k box box at)) inside,
+      )

@@ -1,4 +1,4 @@
-ghost use Rattle.std.specs.Prelude.{◌≡◌, ◌≢◌, ◌↔◌, ℕ, ◌+◌, true, false, ℤ, Option, Some, None, List, [], ◌++◌, take, fold, flat_map, slice_get, All, Contains};
+ghost use Rattle.std.specs.Prelude.{◌≡◌, ◌≢◌, ◌↔◌, ℕ, ◌+◌, true, false, ℤ, Option, Some, None, List, [], ◌++◌, length, map, take, slice_get, All, Contains};
 ghost use Rattle.std.specs.List.Sorted.{IsPermutation};
 ghost use Rattle.pooma_domain.specs.Cells.{Interval, IsIn, cells_of};
 ghost use Rattle.pooma_view.specs.Slots.{cell_named, positions_of};
@@ -6,6 +6,9 @@ ghost use Rattle.pooma_view.specs.Views.{Viewed};
 ghost use Rattle.pooma_field.specs.Numbered.{IsFull};
 ghost use Rattle.pooma_field.specs.Shapes.{own_area};
 ghost use Rattle.pooma_field.specs.Worlds.{World, HasCell, array_of, number_of, changed, opening_world};
+ghost use Rattle.pooma_layout.specs.Axes.{cut_at};
+ghost use Rattle.pooma_layout.specs.Blocks.{product};
+ghost use Rattle.pooma_layout.specs.Patches.{HaveSameParts};
 ghost use Rattle.pooma_expr.specs.declared.reduction.Reduction.{Reduction};
 ghost use Rattle.pooma_expr.specs.declared.tree.Expr.{Expr};
 ghost use Rattle.pooma_expr.specs.Reductions.{AllFit, result_over};
@@ -15,11 +18,12 @@ ghost use Rattle.pooma_model.specs.declared.statement.Action.{Action};
 ghost use Rattle.pooma_model.specs.declared.statement.Action.TheVariants as action;
 ghost use Rattle.pooma_model.specs.declared.statement.Statement.{Statement};
 ghost use Rattle.pooma_model.specs.Assigning.{Becomes, Faults, Fault, Given, assigned, given_at, whole_value};
-ghost use Rattle.pooma_model.specs.Declarations.{Declared, seen_in, shape_at, value_in};
+ghost use Rattle.pooma_model.specs.Declarations.{Declared, layout_at, seen_in, shape_at, value_in};
 ghost use Rattle.pooma_model.specs.Fit.{IsAssignFit, IsFit, IsWritable};
 ghost use Rattle.pooma_model.specs.Midway.{IsMidway, IsUnnamed, SeesMidway};
-ghost use Rattle.pooma_model.specs.Partitions.{IsFirstFault, IsLeastFault, IsPartition, changes_at, fault_at, number_after, numbers_at};
-ghost use Rattle.pooma_model.specs.Reducing.{reduced, scalar_given, values_over};
+ghost use Rattle.pooma_model.specs.Partitions.{IsFirstFault, IsLeastFault, IsOfOthers, IsPartition, changed_in_turn, changes_at, fault_at, number_after, numbers_at, numbers_in_turn};
+ghost use Rattle.pooma_model.specs.Parts.{cut_axes, parts_of};
+ghost use Rattle.pooma_model.specs.Reducing.{reduced, scalar_given};
 ghost use Rattle.pooma_model.specs.Runs.{IsWorldOf, followed_by, with_effect, world_after, world_of};
 ghost use Rattle.pooma_model.specs.Serial.{effect_of, printed, serial};
 
@@ -89,6 +93,16 @@ pub fn reads_stand_apart()
         → IsIn (positions_of target.slots) p → ¬ (Contains done p)
         → IsMidway target done old new → All (SeesMidway declared old new has p) (views_of whole)
         → value old.scalars has whole p ≡ value_in declared old whole p }
+
+    // A part's value at one of its positions is that, whichever positions of other parts are done already.
+    ensures part { (declared : Declared) (target : Viewed) (whole : Expr) (boxes : List (List Interval)) (k : ℕ) (box : List Interval)
+        (done : List (List ℤ)) (old new : World) (has : Contents) (p : List ℤ)
+        → IsAssignFit declared target whole → IsPartition (positions_of target.slots) boxes
+        → slice_get boxes k ≡ Some box → IsIn box p → All (IsOfOthers boxes k) done
+        → IsMidway target done old new → All (SeesMidway declared old new has p) (views_of whole)
+        → value old.scalars has whole p ≡ value_in declared old whole p }
+
+    // How the world gets on.
     ensures begins { (target : Viewed) (world : World) → IsMidway target [] world world }
     ensures goes_on { (target : Viewed) (done more : List (List ℤ)) (old new : World) (given : List ℤ → Given)
         → IsFull (array_of new target.array) → IsMidway target done old new
@@ -122,13 +136,14 @@ pub fn assignments_in_parts()
         → IsFull (array_of world target.array) → IsPartition (positions_of target.slots) boxes
         → All (λ box. fault_at (given_at declared world value mask) (cells_of box) ≡ None) boxes
         → assigned declared target value mask world
-        ≡ Becomes (fold (λ now box. changed now target.array (changes_at (given_at declared world value mask) target.slots (cells_of box))) world boxes) }
-    ensures faults { (declared : Declared) (target : Viewed) (value : Expr) (mask : Option Expr) (boxes : List (List Interval)) (world : World) (fault : Fault)
+        ≡ Becomes (changed_in_turn world target (given_at declared world value mask) boxes) }
+    ensures faults { (declared : Declared) (target : Viewed) (value : Expr) (mask : Option Expr) (boxes : List (List Interval)) (world : World)
+        (fault : Fault)
         → IsPartition (positions_of target.slots) boxes → IsLeastFault (given_at declared world value mask) boxes fault
         → assigned declared target value mask world ≡ Faults fault }
     ensures world { (target : Viewed) (given : List ℤ → Given) (boxes : List (List Interval)) (world : World)
         → IsFull (array_of world target.array) → IsPartition (positions_of target.slots) boxes
-        → fold (λ now box. changed now target.array (changes_at given target.slots (cells_of box))) world boxes
+        → changed_in_turn world target given boxes
         ≡ changed world target.array (changes_at given target.slots (cells_of (positions_of target.slots))) }
     ensures same { (given other : List ℤ → Given) (target : Viewed) (box : List Interval) → ((p : List ℤ) → IsIn box p → given p ≡ other p)
         → changes_at given target.slots (cells_of box) ≡ changes_at other target.slots (cells_of box) }
@@ -143,22 +158,40 @@ pub fn assignments_in_parts()
 /// order, come to what those of the whole come to, where no box has a fault. So the parts' partials, merged in any order,
 /// finish as the reduction. Else its fault is the least of theirs.
 pub fn reductions_in_parts()
-    ensures finishes { (declared : Declared) (scalar : ℕ) (reduction : Reduction) (positions : List Interval) (value : Expr) (boxes : List (List Interval)) (world : World)
+    ensures finishes { (declared : Declared) (scalar : ℕ) (reduction : Reduction) (positions : List Interval) (value : Expr)
+        (boxes : List (List Interval)) (world : World)
         → IsPartition positions boxes → All (λ box. fault_at (given_at declared world value None) (cells_of box) ≡ None) boxes
-        → AllFit (flat_map (λ box. values_over declared world box value) boxes)
+        → AllFit (numbers_in_turn (value_in declared world value) boxes)
         → reduced declared scalar reduction positions value world
-        ≡ scalar_given world scalar (result_over reduction (flat_map (λ box. values_over declared world box value) boxes)) }
-    ensures faults { (declared : Declared) (scalar : ℕ) (reduction : Reduction) (positions : List Interval) (value : Expr) (boxes : List (List Interval)) (world : World) (fault : Fault)
+        ≡ scalar_given world scalar (result_over reduction (numbers_in_turn (value_in declared world value) boxes)) }
+    ensures faults { (declared : Declared) (scalar : ℕ) (reduction : Reduction) (positions : List Interval) (value : Expr)
+        (boxes : List (List Interval)) (world : World) (fault : Fault)
         → IsPartition positions boxes → IsLeastFault (given_at declared world value None) boxes fault
         → reduced declared scalar reduction positions value world ≡ Faults fault }
-    ensures result { (value : List ℤ → Checked) (whole : List Interval) (boxes : List (List Interval)) (reduction : Reduction) → IsPartition whole boxes
-        → AllFit (flat_map (λ box. numbers_at value (cells_of box)) boxes)
-        → result_over reduction (flat_map (λ box. numbers_at value (cells_of box)) boxes) ≡ result_over reduction (numbers_at value (cells_of whole)) }
+    ensures result { (value : List ℤ → Checked) (whole : List Interval) (boxes : List (List Interval)) (reduction : Reduction)
+        → IsPartition whole boxes → AllFit (numbers_in_turn value boxes)
+        → result_over reduction (numbers_in_turn value boxes) ≡ result_over reduction (numbers_at value (cells_of whole)) }
     ensures same { (value other : List ℤ → Checked) (box : List Interval) → ((p : List ℤ) → IsIn box p → value p ≡ other p)
         → numbers_at value (cells_of box) ≡ numbers_at other (cells_of box) }
 {
     order_of_cells();
 }
+
+/// The parts of a statement, as a law for proofs: they have each of its positions once, and are as many as the axes' parts
+/// multiply to. Within one of them the cells that a view names lie in one part of its array's layout on each axis, so they
+/// have one owner.
+pub fn parts_of_statements()
+    ensures partition { (declared : Declared) (views : List Viewed) (positions : List Interval)
+        → IsPartition positions (parts_of declared views positions) }
+    ensures counted { (declared : Declared) (views : List Viewed) (positions : List Interval)
+        → length (parts_of declared views positions) ≡ product (map length (cut_axes declared views 0 positions)) }
+    ensures on_axis { (first : ℤ) (borders : List ℤ) (last : ℤ) → length (cut_at first borders last) ≡ length borders + 1 }
+    ensures together { (declared : Declared) (views : List Viewed) (positions : List Interval) (view : Viewed) (box : List Interval) (p q : List ℤ)
+        → Contains views view → Contains (parts_of declared views positions) box
+        → length (layout_at declared view.array) ≡ length view.slots → positions_of view.slots ≡ positions
+        → IsIn box p → IsIn box q
+        → HaveSameParts (layout_at declared view.array) (cell_named view.slots p) (cell_named view.slots q) }
+{}
 
 /// Parts in another order, as a law for proofs: they are parts of the same whole.
 pub fn parts_in_any_order()
