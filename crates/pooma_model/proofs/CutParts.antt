@@ -6,7 +6,7 @@ use Rattle.std.proofs.lemmas.Int.{ints, by_lt_z}
 use Rattle.std.proofs.lemmas.List.{length-map}
 use Rattle.std.specs.List.{cons_option, filter, filter_map, list_any}
 use Rattle.std.specs.Prelude.{◌≡◌, ◌⊎◌, ℕ, zero, suc, ◌+◌, ◌-◌, ◌*◌, ◌==◌, ◌<◌, ℤ, pos, negsuc, ◌+ℤ◌, ◌-ℤ◌, ◌≤ℤ◌, ◌<ℤ◌, Bool, true, false, not, ◌||◌, Option, Some, None, List, [], ◌∷◌, ◌++◌, length, map, flat_map, slice_get, AllPairs, Contains}
-use Rattle.pooma_domain.specs.Cells.{Interval, interval, axis_length, count_of, counting, IsIn}
+use Rattle.pooma_domain.specs.Cells.{Interval, interval, axis_length, count_of, counting, IsBefore, IsIn}
 use Rattle.pooma_domain.specs.Operations.{HaveCommonCell}
 use Rattle.pooma_view.specs.declared.slots.Slot.{Slot}
 use Rattle.pooma_view.specs.declared.slots.Slot.TheVariants.{Fixed, Along}
@@ -114,11 +114,28 @@ cut_separate first (border ∷ later) last up = (
   cut_separate border later last up.2,
 )
 
+-- a part begins where the first does, or later
+begins : (first : ℤ) (borders : List ℤ) (last : ℤ) (part : Interval) → Ascend first borders last → Member (cut_at first borders last) part → first ≤ℤ part.first
+begins first [] last part up m = ⊎_elim (λ e. let at : first ≡ part.first = ap (λ (i : Interval). i.first) e in omega (arith, ints, at)) (λ none. absurd none) m
+begins first (c ∷ later) last part up m =
+    ⊎_elim (λ e. let at : first ≡ part.first = ap (λ (i : Interval). i.first) e in omega (arith, ints, at))
+    (λ l. let rest : c ≤ℤ part.first = begins c later last part up.2 l in let start : first <ℤ c = up.0 in omega (arith, ints))
+    m
+
+-- each part begins above the one before it
+cut_ascends : (first : ℤ) (borders : List ℤ) (last : ℤ) → Ascend first borders last → Separate (λ one other. one.first <ℤ other.first) (cut_at first borders last)
+cut_ascends first [] last up = (λ part m. absurd m, tt)
+cut_ascends first (border ∷ later) last up = (
+  λ part m. let start : first <ℤ border = up.0 in let low : border ≤ℤ part.first = begins border later last part up.2 m in omega (arith, ints),
+  cut_ascends border later last up.2,
+)
+
 -- the parts of an axis are parts of it
 record CutsAxis (parts : List Interval) (axis : Interval) : Type 0 where
   covers : (x : ℤ) → OnAxis axis x → (part : Interval) × Member parts part × OnAxis part x
   within : (part : Interval) (x : ℤ) → Member parts part → OnAxis part x → OnAxis axis x
   separate : Separate NoneCommon parts
+  ascend : Separate (λ one other. one.first <ℤ other.first) parts
 
 whole_or_none : (z : ℤ) → (pos (count_of z) ≡ z) ⊎ (count_of z ≡ 0)
 whole_or_none (pos n) = inl refl
@@ -146,6 +163,7 @@ cuts_axis views axis =
       covers = λ x on. cut_covers axis.first (borders_on views axis) axis.last x up on.0 on.1;
       within = λ part x m on. cut_within axis.first (borders_on views axis) axis.last x part up m on;
       separate = cut_separate axis.first (borders_on views axis) axis.last up;
+      ascend = cut_ascends axis.first (borders_on views axis) axis.last up;
     }
 
 -- ---- boxes
@@ -251,6 +269,40 @@ parts_partition declared views positions =
       apart = pairs_of Apart (boxes_of cuts) (boxes_separate cuts positions are);
     }
 
+-- ---- their order
+
+-- the first position of a box stands before that of the other
+abbrev pub Begins : List Interval → List Interval → Type 0
+Begins one other = IsBefore (map (λ axis. axis.first) one) (map (λ axis. axis.first) other)
+
+with_part_begins : (parts : List Interval) (box : List Interval) → Separate (λ one other. one.first <ℤ other.first) parts → Separate Begins (with_part parts box)
+with_part_begins [] box s = tt
+with_part_begins (part ∷ parts) box s = (
+  λ other m. let found = from_map (λ i. i ∷ box) parts other m in
+      subst (Begins (part ∷ box)) found.2 (inr (refl, s.0 found.0 found.1)),
+  with_part_begins parts box s.1,
+)
+
+joined_begins : (parts : List Interval) (boxes : List (List Interval)) → Separate (λ one other. one.first <ℤ other.first) parts → Separate Begins boxes → Separate Begins (flat_map (with_part parts) boxes)
+joined_begins parts [] s t = tt
+joined_begins parts (box ∷ boxes) s t =
+    separate_joined Begins (with_part parts box) (flat_map (with_part parts) boxes) (with_part_begins parts box s) (joined_begins parts boxes s t.1)
+    (λ one other m l.
+    let first = from_map (λ i. i ∷ box) parts one m in
+    let found = member_with parts boxes other l in
+    subst (λ b. Begins b other) first.2 (subst (Begins (first.0 ∷ box)) found.4 (inl (t.0 found.1 found.3))))
+
+boxes_begin : (cuts : List (List Interval)) (axes : List Interval) → AreCuts cuts axes → Separate Begins (boxes_of cuts)
+boxes_begin [] [] are = (λ box m. absurd m, tt)
+boxes_begin [] (axis ∷ axes) are = absurd are
+boxes_begin (parts ∷ cuts) [] are = absurd are
+boxes_begin (parts ∷ cuts) (axis ∷ axes) are = joined_begins parts (boxes_of cuts) are.0.ascend (boxes_begin cuts axes are.1)
+
+pub parts_ordered : (declared : Declared) (views : List Viewed) (positions : List Interval) → AllPairs Begins (parts_of declared views positions)
+parts_ordered declared views positions =
+    let cuts = cut_axes declared views 0 positions in
+    pairs_of Begins (boxes_of cuts) (boxes_begin cuts positions (are_cuts declared views 0 positions))
+
 -- ---- how many they are
 
 length_with : (parts : List Interval) (boxes : List (List Interval)) → length (flat_map (with_part parts) boxes) ≡ length parts * length boxes
@@ -283,13 +335,6 @@ none_inside first (b ∷ later) last k part up m low high border =
     (λ r. none_inside b later last k part up.2 l low high r)
     border)
     m
-  where
-    begins : (first : ℤ) (borders : List ℤ) (last : ℤ) (part : Interval) → Ascend first borders last → Member (cut_at first borders last) part → first ≤ℤ part.first
-    begins first [] last part up m = ⊎_elim (λ e. let at : first ≡ part.first = ap (λ (i : Interval). i.first) e in omega (arith, ints, at)) (λ none. absurd none) m
-    begins first (c ∷ later) last part up m =
-        ⊎_elim (λ e. let at : first ≡ part.first = ap (λ (i : Interval). i.first) e in omega (arith, ints, at))
-        (λ l. let rest : c ≤ℤ part.first = begins c later last part up.2 l in let start : first <ℤ c = up.0 in omega (arith, ints))
-        m
 
 counted_there : (c : ℤ) (n : ℕ) (k : ℤ) → c ≤ℤ k → k <ℤ (c +ℤ pos n) → Member (counting c n) k
 counted_there c zero k low high = absurd (omega (arith, ints))

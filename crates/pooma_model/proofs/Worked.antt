@@ -209,6 +209,14 @@ a_run_ends_at_its_fault : run_of (declaring (brick (row (pos 7)) ∷ []) 0)
 unfolding place_in digits
 a_run_ends_at_its_fault = simp fold-roll-Expr
 
+-- of two faults on one line the first position's is named
+two_positions_fault : run_of (declaring (brick (row (pos 5)) ∷ brick (row (pos 5)) ∷ []) 0)
+    (on_line 4 (action.Assign six MOST None) ∷ on_line 5 (action.Assign (cell (pos 2)) (number (pos 0)) None)
+    ∷ on_line 6 (action.Assign (view 1 (going (pos 0) (pos 1) 6 refl refl refl ∷ [])) (two op.Add (read six) (number (pos 1))) None) ∷ [])
+    ≡ ends_with (codes "fault line 6 at (0): overflow" ∷ [])
+unfolding place_in digits
+two_positions_fault = simp fold-roll-Expr
+
 -- ---- fields
 
 -- the reads are those of the world before, external cells too

@@ -1,6 +1,6 @@
-ghost use Rattle.std.specs.Prelude.{◌≡◌, ◌≢◌, ◌↔◌, ℕ, ◌+◌, true, false, ℤ, Option, Some, None, List, [], ◌++◌, length, map, take, slice_get, All, Contains};
+ghost use Rattle.std.specs.Prelude.{◌≡◌, ◌≢◌, ◌↔◌, ℕ, ◌+◌, true, false, ℤ, Option, Some, None, List, [], ◌++◌, length, map, take, slice_get, All, AllPairs, Contains};
 ghost use Rattle.std.specs.List.Sorted.{IsPermutation};
-ghost use Rattle.pooma_domain.specs.Cells.{Interval, IsIn, cells_of};
+ghost use Rattle.pooma_domain.specs.Cells.{Interval, IsBefore, IsIn, cells_of};
 ghost use Rattle.pooma_view.specs.Slots.{cell_named, positions_of};
 ghost use Rattle.pooma_view.specs.Views.{Viewed};
 ghost use Rattle.pooma_field.specs.Numbered.{IsFull};
@@ -177,12 +177,14 @@ pub fn reductions_in_parts()
     order_of_cells();
 }
 
-/// The parts of a statement, as a law for proofs: they have each of its positions once, and are as many as the axes' parts
-/// multiply to. Within one of them the cells that a view names lie in one part of its array's layout on each axis, so they
-/// have one owner.
+/// The parts of a statement, as a law for proofs: they have each of its positions once, stand in the order of their first
+/// positions, and are as many as the axes' parts multiply to. Within one of them the cells that a view names lie in one part
+/// of its array's layout on each axis, so they have one owner.
 pub fn parts_of_statements()
     ensures partition { (declared : Declared) (views : List Viewed) (positions : List Interval)
         → IsPartition positions (parts_of declared views positions) }
+    ensures ordered { (declared : Declared) (views : List Viewed) (positions : List Interval)
+        → AllPairs (λ one other. IsBefore (map (λ axis. axis.first) one) (map (λ axis. axis.first) other)) (parts_of declared views positions) }
     ensures counted { (declared : Declared) (views : List Viewed) (positions : List Interval)
         → length (parts_of declared views positions) ≡ product (map length (cut_axes declared views 0 positions)) }
     ensures on_axis { (first : ℤ) (borders : List ℤ) (last : ℤ) → length (cut_at first borders last) ≡ length borders + 1 }
