@@ -1,0 +1,7 @@
+pub mod KeptArrays
+pub mod KeptPatches
+pub mod NewArrays
+pub mod ObjectNumbers
+pub mod OwnerNumbers
+mod Worked
+pub mod WorldChanges

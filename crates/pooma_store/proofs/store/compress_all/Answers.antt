@@ -1,0 +1,23 @@
+use Rattle.std.proofs.Common.{◌∙◌, subst, arith}
+use Rattle.std.specs.Prelude.{All}
+use Rattle.std.specs.declared.alloc.Global.{Global}
+use Rattle.std.specs.declared.sync.Arc.{Arc}
+use Rattle.pooma_patch.specs.Patched.{Patched}
+use Rattle.pooma_field.specs.Numbered.{IsFull}
+use Rattle.std.proofs.lemmas.List.{take_all, length-map}
+use Rattle.std.specs.Arc.{arc_value}
+use Rattle.pooma_store.specs.Stored.{contents_of}
+use Rattle.pooma_store.proofs.KeptPatches.{contents_stay, full_more}
+use Rattle.pooma_store.proofs.store.compress_all.Goals as goal
+
+pub loop-patch-preserved : goal.loop-patch-preserved
+loop-patch-preserved c = record {
+  contents = contents_stay c.loop-patch.patches c.loop-patch.patch-index c.patch-item.result c.compress_if_alone.new.patch c.compress_if_alone.ensures.content ∙ c.loop-patch.invariant.contents;
+  full = full_more c.loop-patch.patches c.loop-patch.patch-index c.patch-item.result c.compress_if_alone.new.patch (omega arith) c.compress_if_alone.ensures.content c.compress_if_alone.ensures.full c.loop-patch.invariant.full;
+}
+
+pub returns-clause-full : goal.returns-clause-full
+returns-clause-full c =
+    subst (All IsFull)
+    (take_all c.loop-patch.patch-index (contents_of c.loop-patch.patches) (omega (arith, c.loop-patch-test.false, length-map c.loop-patch.patches (λ (a : Arc Patched Global). (arc_value a).content))))
+    c.loop-patch.invariant.full
