@@ -10,7 +10,7 @@ use Rattle.pooma_field.specs.Worlds.{World, array_of, number_of, changed, look_i
 use Rattle.pooma_layout.specs.Axes.{CutAxis, IsCutAxis}
 use Rattle.pooma_layout.specs.Patches.{owner_of, Owns}
 use Rattle.pooma_store.specs.Gathered.{HasLaws}
-use Rattle.pooma_store.specs.Numbering.{layout_at, patch_count, object_of, object_at, changed_at, AreObjects, HasPatch}
+use Rattle.pooma_store.specs.Numbering.{layout_at, patch_count, object_of, object_at, changed_at, AreObjects, EachCell, HasPatch}
 use Rattle.pooma_store.specs.Standing.{HasTotal, owner_object, HasNumber, OwnerHas, StandsFor, shape_at, IsField, IsFresh, Allocates, IsGuarded}
 use Rattle.pooma_store.proofs.ObjectNumbers.{object_there, objects_apart}
 use Rattle.pooma_store.proofs.OwnerNumbers.{objects_counted, owner_has_cell, full_at, other_object_stays, other_object_was, changed_object_has, other_owner, patch_allocates, same_after}
@@ -73,10 +73,6 @@ stands_along laws layouts objects world next array p new patch area stands along
         (elsewhere_stays laws layouts objects array p array new c (number_of world array c) patch.known patch.below (λ _. foreign) (stands array c there)))
         (cases_eq p (owner_of (layout_at layouts array) c))
 
--- the patch owns each changed cell
-abbrev pub AreOwned : List CutAxis → ℕ → List Change → Type 0
-AreOwned layout p changes = (k : ℕ) (change : Change) → slice_get changes k ≡ Some change → Owns layout p change.cell
-
 -- cells that a changed world has are those that it had
 changed_cells : HasLaws → (world : World) (array : ℕ) (changes : List Change) (a : ℕ) (c : List ℤ) → HasCell (changed world array changes) a c → HasCell world a c
 changed_cells laws world array changes a c has =
@@ -98,7 +94,7 @@ changed_cells laws world array changes a c has =
         subst (λ (box : List Interval). IsIn box c) area has.1
 
 -- cells that the patch owns were changed, in its object and in the world
-pub stands_changed : HasLaws → (layouts : List (List CutAxis)) (objects : List Numbered) (world : World) (array p : ℕ) (changes : List Change) → IsPatch layouts objects array p → IsFull (array_of world array) → AreOwned (layout_at layouts array) p changes → StandsFor layouts objects world → StandsFor layouts (changed_at objects (object_of layouts array p) changes) (changed world array changes)
+pub stands_changed : HasLaws → (layouts : List (List CutAxis)) (objects : List Numbered) (world : World) (array p : ℕ) (changes : List Change) → IsPatch layouts objects array p → IsFull (array_of world array) → EachCell changes (λ cell. Owns (layout_at layouts array) p cell) → StandsFor layouts objects world → StandsFor layouts (changed_at objects (object_of layouts array p) changes) (changed world array changes)
 stands_changed laws layouts objects world array p changes patch full owned stands =
     stands_along laws layouts objects world (changed world array changes) array p (with_changes object changes) patch (laws.area object changes) stands
     (record {
@@ -121,7 +117,7 @@ stands_changed laws layouts objects world array p changes patch full owned stand
         ∙ ap (λ (b : Numbered). number_at b c) (sym (laws.this world array changes has.0))
 
 -- a number that no change speaks of stays
-pub kept_number : HasLaws → (layouts : List (List CutAxis)) (objects : List Numbered) (array p : ℕ) (changes : List Change) (other : ℕ) (c : List ℤ) (n : ℤ) → IsPatch layouts objects array p → (other ≡ array → (k : ℕ) (change : Change) → slice_get changes k ≡ Some change → Owns (layout_at layouts array) p change.cell → c ≢ change.cell) → OwnerHas layouts objects other c n → OwnerHas layouts (changed_at objects (object_of layouts array p) changes) other c n
+pub kept_number : HasLaws → (layouts : List (List CutAxis)) (objects : List Numbered) (array p : ℕ) (changes : List Change) (other : ℕ) (c : List ℤ) (n : ℤ) → IsPatch layouts objects array p → (other ≡ array → EachCell changes (λ cell. Owns (layout_at layouts array) p cell → c ≢ cell)) → OwnerHas layouts objects other c n → OwnerHas layouts (changed_at objects (object_of layouts array p) changes) other c n
 kept_number laws layouts objects array p changes other c n patch unchanged has =
     ⊎_elim
     (λ this. subst (λ (a : ℕ). OwnerHas layouts (changed_at objects (object_of layouts array p) changes) a c n) (sym this)
@@ -132,7 +128,7 @@ kept_number laws layouts objects array p changes other c n patch unchanged has =
     object : Numbered
     object = object_at objects (object_of layouts array p)
 
-    owned : ((k : ℕ) (change : Change) → slice_get changes k ≡ Some change → Owns (layout_at layouts array) p change.cell → c ≢ change.cell) → OwnerHas layouts objects array c n → p ≡ owner_of (layout_at layouts array) c → number_at (with_changes object changes) c ≡ n
+    owned : EachCell changes (λ cell. Owns (layout_at layouts array) p cell → c ≢ cell) → OwnerHas layouts objects array c n → p ≡ owner_of (layout_at layouts array) c → number_at (with_changes object changes) c ≡ n
     owned apart here owns =
         let number : HasNumber objects (object_of layouts array p) c n =
         subst (λ (q : ℕ). HasNumber objects (object_of layouts array q) c n) (sym owns) here.number in
@@ -142,7 +138,7 @@ kept_number laws layouts objects array p changes other c n patch unchanged has =
         (λ k change at same. apart k change at (subst (Owns (layout_at layouts array) p) same own) same)
         ∙ number.number
 
-    in_array : ((k : ℕ) (change : Change) → slice_get changes k ≡ Some change → Owns (layout_at layouts array) p change.cell → c ≢ change.cell) → OwnerHas layouts objects array c n → OwnerHas layouts (changed_at objects (object_of layouts array p) changes) array c n
+    in_array : EachCell changes (λ cell. Owns (layout_at layouts array) p cell → c ≢ cell) → OwnerHas layouts objects array c n → OwnerHas layouts (changed_at objects (object_of layouts array p) changes) array c n
     in_array apart here =
         ⊎_elim
         (λ owns. owned_changes laws layouts objects array p (with_changes object changes) c n n patch (laws.area object changes) owns here (owned apart here owns))
@@ -162,7 +158,7 @@ set_number laws layouts objects array p changes k change patch total owns at las
     (laws.all_set object changes k change (full_at objects (object_of layouts array p) patch.are.full (patch_there layouts objects array p patch)) inside at last)
 
 -- cells were changed in an object of which the world has no number or the patch is not the owner
-pub stands_unseen : HasLaws → (layouts : List (List CutAxis)) (objects : List Numbered) (world : World) (array p : ℕ) (changes : List Change) → IsPatch layouts objects array p → ((k : ℕ) (change : Change) → slice_get changes k ≡ Some change → Owns (layout_at layouts array) p change.cell → ¬ (HasCell world array change.cell)) → StandsFor layouts objects world → StandsFor layouts (changed_at objects (object_of layouts array p) changes) world
+pub stands_unseen : HasLaws → (layouts : List (List CutAxis)) (objects : List Numbered) (world : World) (array p : ℕ) (changes : List Change) → IsPatch layouts objects array p → EachCell changes (λ cell. Owns (layout_at layouts array) p cell → ¬ (HasCell world array cell)) → StandsFor layouts objects world → StandsFor layouts (changed_at objects (object_of layouts array p) changes) world
 stands_unseen laws layouts objects world array p changes patch unseen stands a c has =
     kept_number laws layouts objects array p changes a c (number_of world a c) patch
     (λ this k change at owns same. unseen k change at owns
@@ -170,7 +166,7 @@ stands_unseen laws layouts objects world array p changes patch unseen stands a c
     (stands a c has)
 
 -- a field stays fresh where none of its external cells is changed in the patch that owns it
-pub fresh_kept : HasLaws → (shapes : List Shaped) (layouts : List (List CutAxis)) (objects : List Numbered) (world : World) (array p : ℕ) (changes : List Change) (other : ℕ) → IsPatch layouts objects array p → (other ≡ array → (k : ℕ) (change : Change) → slice_get changes k ≡ Some change → Owns (layout_at layouts array) p change.cell → IsIn (shape_at shapes other).physical change.cell) → IsFresh shapes layouts objects world other → IsFresh shapes layouts (changed_at objects (object_of layouts array p) changes) world other
+pub fresh_kept : HasLaws → (shapes : List Shaped) (layouts : List (List CutAxis)) (objects : List Numbered) (world : World) (array p : ℕ) (changes : List Change) (other : ℕ) → IsPatch layouts objects array p → (other ≡ array → EachCell changes (λ cell. Owns (layout_at layouts array) p cell → IsIn (shape_at shapes other).physical cell)) → IsFresh shapes layouts objects world other → IsFresh shapes layouts (changed_at objects (object_of layouts array p) changes) world other
 fresh_kept laws shapes layouts objects world array p changes other patch physical fresh c field total external =
     kept_number laws layouts objects array p changes other c (look_in world (shape_at shapes other) other c) patch
     (λ this k change at owns same. external (subst (IsIn (shape_at shapes other).physical) (sym same) (physical this k change at owns)))

@@ -1,5 +1,6 @@
--- The data objects of arrays: one for each patch, numbered by arrays in order and in each array by patch. Arrays are seen here as the list of their layouts.
-use Rattle.std.specs.Prelude.{◌≡◌, ℕ, ◌+◌, ◌<◌, pos, List, [], length, map, flat_map, replicate, slice_index_or, slice_set, sum_by, take, All}
+-- The data objects of arrays: one for each patch, numbered by arrays in order and in each array by patch. Arrays are seen as the
+-- list of their layouts.
+use Rattle.std.specs.Prelude.{◌≡◌, ℕ, ◌+◌, ◌<◌, ℤ, pos, Some, List, [], length, map, flat_map, replicate, slice_get, slice_index_or, slice_set, sum_by, take, All}
 use Rattle.pooma_domain.specs.Cells.{Interval, cells_of}
 use Rattle.pooma_field.specs.Numbered.{Numbered, Change, with_changes, IsFull}
 use Rattle.pooma_layout.specs.Axes.{CutAxis}
@@ -43,6 +44,10 @@ object_at objects k = slice_index_or objects k (record { area = []; numbers = []
 -- the contents, where some cells of one object got other numbers
 abbrev pub changed_at : List Numbered → ℕ → List Change → List Numbered
 changed_at objects k changes = slice_set objects k (with_changes (object_at objects k) changes)
+
+-- it is so of each cell that one of the changes speaks of
+abbrev pub EachCell : List Change → (List ℤ → Type 0) → Type 0
+EachCell changes P = (k : ℕ) (change : Change) → slice_get changes k ≡ Some change → P change.cell
 
 -- a box whose cells all have the number 0
 abbrev pub zeros_over : List Interval → Numbered

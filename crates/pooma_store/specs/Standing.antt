@@ -45,7 +45,8 @@ pub record IsField (world : World) (array : ℕ) (shape : Shaped) : Type 0 where
 -- if the array is a field, each of its external cells has in the patch that owns it the number that looking it up gives
 abbrev pub IsFresh : List Shaped → List (List CutAxis) → List Numbered → World → ℕ → Type 0
 IsFresh shapes layouts objects world array =
-    (c : List ℤ) → IsField world array (shape_at shapes array) → IsIn (shape_at shapes array).total c → ¬ (IsIn (shape_at shapes array).physical c)
+    (c : List ℤ) → IsField world array (shape_at shapes array)
+    → IsIn (shape_at shapes array).total c → ¬ (IsIn (shape_at shapes array).physical c)
     → OwnerHas layouts objects array c (look_in world (shape_at shapes array) array c)
 
 -- there is a patch of this number, and it allocates the cell

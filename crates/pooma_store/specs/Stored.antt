@@ -12,7 +12,8 @@ use Rattle.pooma_patch.specs.Patched.{Patched}
 use Rattle.pooma_store.specs.Numbering.{layout_at, AreObjects}
 use Rattle.pooma_store.specs.Standing.{shape_at}
 
--- the arrays' shapes and layouts by the arrays' numbers, the contents of the objects by theirs, and whether the objects are lent; then there are no contents
+-- the arrays' shapes and layouts by the arrays' numbers, the contents of the objects by theirs, and whether the objects are lent;
+-- then there are no contents
 pub record Stored : Type 0 where
   pub shapes : List Shaped
   pub layouts : List (List CutAxis)

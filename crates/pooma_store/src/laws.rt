@@ -6,7 +6,7 @@ ghost use Rattle.pooma_field.specs.Worlds.{World, array_of, number_of, changed, 
 ghost use Rattle.pooma_layout.specs.Axes.{CutAxis, IsCutAxis};
 ghost use Rattle.pooma_layout.specs.Patches.{allocated_boxes, owner_of, Owns, IsLayout};
 ghost use Rattle.pooma_store.specs.Gathered.{HasLaws};
-ghost use Rattle.pooma_store.specs.Numbering.{layout_at, object_count, object_of, areas_of, object_at, changed_at, new_patches, new_objects, AreObjects, HasPatch};
+ghost use Rattle.pooma_store.specs.Numbering.{layout_at, object_count, object_of, areas_of, object_at, changed_at, new_patches, new_objects, AreObjects, EachCell, HasPatch};
 ghost use Rattle.pooma_store.specs.Standing.{HasTotal, OwnerHas, StandsFor, shape_at, IsFresh, IsGuarded};
 ghost use Rattle.pooma_store.specs.Stored.{AreArrays};
 
@@ -18,8 +18,10 @@ use pooma_layout::{allocated_cells_of_patches, owners_of_cells};
 pub fn numbers_of_objects()
     ensures counted { (layouts : List (List CutAxis)) → length (areas_of layouts) ≡ object_count layouts }
     ensures area { (layouts : List (List CutAxis)) (array p : ℕ) (box : List Interval) → array < length layouts
-        → slice_get (allocated_boxes (layout_at layouts array)) p ≡ Some box → slice_get (areas_of layouts) (object_of layouts array p) ≡ Some box }
-    ensures there { (layouts : List (List CutAxis)) (array p : ℕ) → HasPatch layouts array p → object_of layouts array p < object_count layouts }
+        → slice_get (allocated_boxes (layout_at layouts array)) p ≡ Some box
+        → slice_get (areas_of layouts) (object_of layouts array p) ≡ Some box }
+    ensures there { (layouts : List (List CutAxis)) (array p : ℕ) → HasPatch layouts array p
+        → object_of layouts array p < object_count layouts }
     ensures apart { (layouts : List (List CutAxis)) (array other p q : ℕ) → HasPatch layouts array p → HasPatch layouts other q
         → object_of layouts array p ≡ object_of layouts other q → (array ≡ other) × (p ≡ q) }
     ensures found { (layouts : List (List CutAxis)) (k : ℕ) → ((array : ℕ) → array < length layouts → IsLayout (layout_at layouts array))
@@ -39,14 +41,14 @@ pub fn numbers_of_owners()
         → object_at (changed_at objects k changes) k ≡ with_changes (object_at objects k) changes }
     ensures others { (objects : List Numbered) (j k : ℕ) (changes : List Change) → j ≢ k
         → object_at (changed_at objects k changes) j ≡ object_at objects j }
-    ensures set { (layouts : List (List CutAxis)) (objects : List Numbered) (array p : ℕ) (changes : List Change) (k : ℕ) (change : Change)
-        → AreObjects layouts objects → HasPatch layouts array p → Owns (layout_at layouts array) p change.cell
+    ensures set { (layouts : List (List CutAxis)) (objects : List Numbered) (array p : ℕ) (changes : List Change) (k : ℕ)
+        (change : Change) → AreObjects layouts objects → HasPatch layouts array p → Owns (layout_at layouts array) p change.cell
         → slice_get changes k ≡ Some change
         → ((j : ℕ) (later : Change) → k < j → slice_get changes j ≡ Some later → later.cell ≢ change.cell)
         → OwnerHas layouts (changed_at objects (object_of layouts array p) changes) array change.cell change.number }
-    ensures kept { (layouts : List (List CutAxis)) (objects : List Numbered) (array p : ℕ) (changes : List Change) (other : ℕ) (c : List ℤ) (n : ℤ)
-        → AreObjects layouts objects → HasPatch layouts array p
-        → (other ≡ array → (k : ℕ) (change : Change) → slice_get changes k ≡ Some change → Owns (layout_at layouts array) p change.cell → c ≢ change.cell)
+    ensures kept { (layouts : List (List CutAxis)) (objects : List Numbered) (array p : ℕ) (changes : List Change) (other : ℕ)
+        (c : List ℤ) (n : ℤ) → AreObjects layouts objects → HasPatch layouts array p
+        → (other ≡ array → EachCell changes (λ cell. Owns (layout_at layouts array) p cell → c ≢ cell))
         → OwnerHas layouts objects other c n → OwnerHas layouts (changed_at objects (object_of layouts array p) changes) other c n }
 {
     gathered();
@@ -58,22 +60,21 @@ pub fn numbers_of_owners()
 pub fn objects_change()
     ensures changed { (layouts : List (List CutAxis)) (objects : List Numbered) (world : World) (array p : ℕ) (changes : List Change)
         → AreObjects layouts objects → HasPatch layouts array p → IsFull (array_of world array)
-        → ((k : ℕ) (change : Change) → slice_get changes k ≡ Some change → Owns (layout_at layouts array) p change.cell)
+        → EachCell changes (λ cell. Owns (layout_at layouts array) p cell)
         → StandsFor layouts objects world
         → StandsFor layouts (changed_at objects (object_of layouts array p) changes) (changed world array changes) }
     ensures unseen { (layouts : List (List CutAxis)) (objects : List Numbered) (world : World) (array p : ℕ) (changes : List Change)
         → AreObjects layouts objects → HasPatch layouts array p
-        → ((k : ℕ) (change : Change) → slice_get changes k ≡ Some change → Owns (layout_at layouts array) p change.cell → ¬ (HasCell world array change.cell))
+        → EachCell changes (λ cell. Owns (layout_at layouts array) p cell → ¬ (HasCell world array cell))
         → StandsFor layouts objects world
         → StandsFor layouts (changed_at objects (object_of layouts array p) changes) world }
-    ensures fresh { (shapes : List Shaped) (layouts : List (List CutAxis)) (objects : List Numbered) (world : World) (array p : ℕ) (changes : List Change) (other : ℕ)
-        → AreObjects layouts objects → HasPatch layouts array p
-        → (other ≡ array → (k : ℕ) (change : Change) → slice_get changes k ≡ Some change → Owns (layout_at layouts array) p change.cell
-        → IsIn (shape_at shapes other).physical change.cell)
+    ensures fresh { (shapes : List Shaped) (layouts : List (List CutAxis)) (objects : List Numbered) (world : World) (array p : ℕ)
+        (changes : List Change) (other : ℕ) → AreObjects layouts objects → HasPatch layouts array p
+        → (other ≡ array → EachCell changes (λ cell. Owns (layout_at layouts array) p cell → IsIn (shape_at shapes other).physical cell))
         → IsFresh shapes layouts objects world other
         → IsFresh shapes layouts (changed_at objects (object_of layouts array p) changes) world other }
-    ensures fresh_elsewhere { (shapes : List Shaped) (layouts : List (List CutAxis)) (objects : List Numbered) (world : World) (array : ℕ) (changes : List Change) (other : ℕ)
-        → other ≢ array → IsFresh shapes layouts objects world other → IsFresh shapes layouts objects (changed world array changes) other }
+    ensures fresh_elsewhere { (shapes : List Shaped) (layouts : List (List CutAxis)) (objects : List Numbered) (world : World) (array : ℕ)
+        (changes : List Change) (other : ℕ) → other ≢ array → IsFresh shapes layouts objects world other → IsFresh shapes layouts objects (changed world array changes) other }
     ensures guarded_elsewhere { (layouts : List (List CutAxis)) (objects : List Numbered) (array p : ℕ) (changes : List Change) (other : ℕ)
         → AreObjects layouts objects → HasPatch layouts array p → other ≢ array → IsGuarded layouts objects other
         → IsGuarded layouts (changed_at objects (object_of layouts array p) changes) other }
@@ -90,7 +91,8 @@ pub fn new_arrays()
     ensures opening { (shapes : List Shaped) (layouts : List (List CutAxis)) (scalars : ℕ) → AreArrays shapes layouts
         → StandsFor layouts (new_objects layouts) (opening_world shapes scalars) }
     ensures guarded { (layouts : List (List CutAxis)) (array : ℕ) → IsGuarded layouts (new_objects layouts) array }
-    ensures more { (layouts : List (List CutAxis)) (layout : List CutAxis) → new_objects (layouts ++ layout ∷ []) ≡ new_objects layouts ++ new_patches layout }
+    ensures more { (layouts : List (List CutAxis)) (layout : List CutAxis)
+        → new_objects (layouts ++ layout ∷ []) ≡ new_objects layouts ++ new_patches layout }
     ensures kept { (layouts : List (List CutAxis)) (objects : List Numbered) (layout : List CutAxis) (array : ℕ) (c : List ℤ) (n : ℤ)
         → OwnerHas layouts objects array c n → OwnerHas (layouts ++ layout ∷ []) (objects ++ new_patches layout) array c n }
 {

@@ -54,7 +54,8 @@ impl Store {
         }
     }
 
-    /// One array more, whose cells all have the number 0, and its number: how many were declared before it. Only want of memory
+    /// One array more, whose cells all have the number 0, and its number: how many were declared before it. Its shape and its
+    /// layout have the same domains, of at most 4,194,304 cells, and there are fewer than 512 arrays. Only want of memory
     /// refuses it; then the store is as before.
     pub fn declare(
         &mut self,
