@@ -1,4 +1,5 @@
-//! What the calls on numbers, boxes, views, fields and patches answer: worked examples and tables, one file for each crate under test.
+//! What the calls on numbers, boxes, views, fields, patches and stores answer: worked examples and tables, one file for each
+//! crate under test.
 #![tactic(auto)]
 
 #[cfg(test)]
@@ -15,5 +16,7 @@ mod model;
 mod num;
 #[cfg(test)]
 mod patch;
+#[cfg(test)]
+mod store;
 #[cfg(test)]
 mod view;
