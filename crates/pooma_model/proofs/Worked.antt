@@ -5,7 +5,7 @@ use Rattle.std.proofs.lemmas.Int.{fits_signed_from_abs, ints}
 use Rattle.std.specs.Fmt.{digits}
 use Rattle.std.specs.Int.{w32}
 use Rattle.std.specs.Ordering.{int_eq}
-use Rattle.std.specs.Prelude.{◌≡◌, ◌++◌, ◌≢◌, ℕ, ◌-◌, ◌^◌, ℤ, pos, negsuc, ◌+ℤ◌, ◌*ℤ◌, nat_lt, unsigned_abs, codes, true, false, Some, None, List, [], ◌∷◌, flat_map, length, slice_index_or, All}
+use Rattle.std.specs.Prelude.{◌≡◌, ◌++◌, ◌≢◌, ℕ, ◌-◌, ◌^◌, ℤ, pos, negsuc, ◌+ℤ◌, ◌*ℤ◌, nat_lt, unsigned_abs, codes, true, false, Some, None, List, [], ◌∷◌, flat_map, length, map, slice_index_or, All}
 use Rattle.pooma_domain.specs.Cells.{Interval, cells_of, interval, IsIn}
 use Rattle.pooma_view.specs.declared.slots.Slot.{Slot}
 use Rattle.pooma_view.specs.declared.slots.Slot.TheVariants.{Fixed, Along}
@@ -17,7 +17,7 @@ use Rattle.pooma_field.specs.declared.updaters.Updater.TheVariants.{Constant, Pe
 use Rattle.pooma_field.specs.Faces.{by_axis}
 use Rattle.pooma_field.specs.Numbered.{place_in}
 use Rattle.pooma_field.specs.Shapes.{Shaped}
-use Rattle.pooma_field.specs.Worlds.{World, opening_world}
+use Rattle.pooma_field.specs.Worlds.{World, changed, opening_world}
 use Rattle.pooma_layout.specs.Axes.{CutAxis, cut_axis}
 use Rattle.pooma_expr.specs.declared.reduction.Reduction.TheVariants as of
 use Rattle.pooma_expr.specs.declared.tree.Op.{Op}
@@ -30,12 +30,17 @@ use Rattle.pooma_model.specs.declared.statement.Action.{Action}
 use Rattle.pooma_model.specs.declared.statement.Action.TheVariants as action
 use Rattle.pooma_model.specs.declared.statement.Statement.{Statement}
 use Rattle.pooma_expr.specs.Trees.{views_by, views_of}
-use Rattle.pooma_model.specs.Declarations.{Declared}
+use Rattle.pooma_expr.specs.Values.{and_then, exact}
+use Rattle.pooma_model.specs.Assigning.{Becomes, Given, Number, assigned, fault_or, given_at, given_by}
+use Rattle.pooma_model.specs.Declarations.{Declared, seen_in}
 use Rattle.pooma_model.specs.Fit.{IsFit}
 use Rattle.pooma_model.specs.Order.{times}
 use Rattle.pooma_model.specs.Parts.{parts_of}
+use Rattle.pooma_model.specs.Partitions.{changes_at, fault_at}
 use Rattle.pooma_model.specs.Runs.{world_after}
-use Rattle.pooma_model.specs.Serial.{Run, serial}
+use Rattle.pooma_model.specs.Serial.{Run, go_on, serial}
+use Rattle.pooma_model.proofs.Assigned.{same_changes}
+use Rattle.pooma_model.proofs.Faulting.{same_faults}
 
 -- ---- how the cases are written
 
@@ -257,46 +262,103 @@ rows_of_a_block = simp fold-roll-Expr
 
 -- the column is read across the row, and they share one cell at one position
 abbrev along : Viewed
-along = view 0 (Fixed (pos 3) ∷ going (pos 0) (pos 1) 4 refl refl refl ∷ [])
+along = view 0 (Fixed (pos 3) ∷ going (pos 0) (pos 1) 8 refl refl refl ∷ [])
 
 abbrev across : Viewed
-across = view 0 (going (pos 0) (pos 1) 4 refl refl refl ∷ Fixed (pos 3) ∷ [])
+across = view 0 (going (pos 0) (pos 1) 8 refl refl refl ∷ Fixed (pos 3) ∷ [])
 
-a_row_gets_the_column : run_of (declaring (brick (row (pos 3) ++ row (pos 3)) ∷ []) 0)
-    (on_line 2 (action.Assign (view 0 (going (pos 0) (pos 1) 4 refl refl refl ∷ going (pos 0) (pos 1) 4 refl refl refl ∷ [])) (two op.Add (index 0) (two op.Mul (number (pos 10)) (index 1))) None)
-    ∷ on_line 3 (action.Assign along (read across) None) ∷ on_line 4 (action.PrintView along) ∷ [])
-    ≡ prints (codes "30 31 32 33" ∷ [])
+abbrev everywhere : Viewed
+everywhere = view 0 (going (pos 0) (pos 1) 8 refl refl refl ∷ going (pos 0) (pos 1) 8 refl refl refl ∷ [])
+
+abbrev square : Declared
+square = declaring (brick (row (pos 7) ++ row (pos 7)) ∷ []) 0
+
+-- the numbers of the cells, where a function of the cells gives them
+abbrev square_has : (List ℤ → ℤ) → World
+square_has number_at_cell = record { arrays = record { area = row (pos 7) ++ row (pos 7); numbers = map number_at_cell (cells_of (row (pos 7) ++ row (pos 7))) } ∷ []; scalars = [] }
+
+abbrev by_digits : List ℤ → ℤ
+by_digits c = slice_index_or c 0 (pos 0) +ℤ pos 10 *ℤ slice_index_or c 1 (pos 0)
+
+-- the world that an assignment becomes, where what it gives to positions is known
+becomes_so : (declared : Declared) (target : Viewed) (e : Expr) (world : World) (given : List ℤ → Given) → ((p : List ℤ) → given_at declared world e None p ≡ given p)
+    → assigned declared target e None world ≡ fault_or (fault_at given (cells_of (positions_of target.slots))) (changed world target.array (changes_at given target.slots (cells_of (positions_of target.slots))))
+becomes_so declared target e world given same =
+    ap (λ f. fault_or f (changed world target.array (changes_at (given_at declared world e None) target.slots (cells_of (positions_of target.slots)))))
+    (same_faults (given_at declared world e None) given (cells_of (positions_of target.slots)) (λ p m. same p))
+    ∙ ap (λ changes. fault_or (fault_at given (cells_of (positions_of target.slots))) (changed world target.array changes))
+    (same_changes (given_at declared world e None) given target.slots (cells_of (positions_of target.slots)) (λ p m. same p))
+
+abbrev two_digits : Expr
+two_digits = two op.Add (index 0) (two op.Mul (number (pos 10)) (index 1))
+
+abbrev two_digits_at : List ℤ → Given
+two_digits_at p = given_by (and_then (exact (pos 10 *ℤ slice_index_or p 1 (pos 0))) (λ tens. exact (slice_index_or p 0 (pos 0) +ℤ tens)))
+
+digits_everywhere : assigned square everywhere two_digits None (opening_world square.shapes square.scalars) ≡ Becomes (square_has by_digits)
+unfolding place_in
+digits_everywhere = becomes_so square everywhere two_digits (opening_world square.shapes square.scalars) two_digits_at (λ p. simp fold-roll-Expr)
+
+abbrev column_to_row : List Statement
+column_to_row = on_line 3 (action.Assign along (read across) None) ∷ on_line 4 (action.PrintView along) ∷ []
+
+column_read : serial square column_to_row (square_has by_digits) ≡ prints (codes "30 31 32 33 34 35 36 37" ∷ [])
 unfolding place_in digits
-a_row_gets_the_column = simp fold-roll-Expr
+column_read =
+    ap (λ effect. go_on 3 [] effect (serial square (on_line 4 (action.PrintView along) ∷ [])))
+    (becomes_so square along (read across) (square_has by_digits) (λ p. Number (seen_in square (square_has by_digits) across (cell_named across.slots p))) (λ p. simp fold-roll-Expr))
+
+a_row_gets_the_column : run_of square (on_line 2 (action.Assign everywhere two_digits None) ∷ column_to_row) ≡ prints (codes "30 31 32 33 34 35 36 37" ∷ [])
+a_row_gets_the_column = ap (λ effect. go_on 2 [] effect (serial square column_to_row)) digits_everywhere ∙ column_read
 
 -- ---- repeats
 
 abbrev means : Declared
-means = declaring (field (row (pos 3)) (interval (negsuc 0) (pos 4) ∷ []) (Constant (pos 0) ∷ Constant (pos 0) ∷ []) ∷ brick (row (pos 3)) ∷ []) 0
+means = declaring (field (row (pos 7)) (interval (negsuc 0) (pos 8) ∷ []) (Constant (pos 0) ∷ Constant (pos 0) ∷ []) ∷ brick (row (pos 7)) ∷ []) 0
+
+abbrev other_eight : Viewed
+other_eight = view 1 (going (pos 0) (pos 1) 8 refl refl refl ∷ [])
 
 abbrev mean_of_neighbours : List Statement
 mean_of_neighbours =
-    on_line 6 (action.Assign (view 1 (going (pos 0) (pos 1) 4 refl refl refl ∷ []))
-    (two op.Div (two op.Add (read (view 0 (going (negsuc 0) (pos 1) 4 refl refl refl ∷ []))) (read (view 0 (going (pos 1) (pos 1) 4 refl refl refl ∷ [])))) (number (pos 2))) None)
-    ∷ on_line 7 (action.Assign four (read (view 1 (going (pos 0) (pos 1) 4 refl refl refl ∷ []))) None) ∷ []
+    on_line 6 (action.Assign other_eight
+    (two op.Div (two op.Add (read (view 0 (going (negsuc 0) (pos 1) 8 refl refl refl ∷ []))) (read (view 0 (going (pos 1) (pos 1) 8 refl refl refl ∷ [])))) (number (pos 2))) None)
+    ∷ on_line 7 (action.Assign eight (read other_eight) None) ∷ []
 
 -- the world in which the field and the other array have these numbers
 abbrev both_have : List ℤ → List ℤ → World
-both_have one other = record { arrays = record { area = row (pos 3); numbers = one } ∷ record { area = row (pos 3); numbers = other } ∷ []; scalars = [] }
+both_have one other = record { arrays = record { area = row (pos 7); numbers = one } ∷ record { area = row (pos 7); numbers = other } ∷ []; scalars = [] }
 
-once : world_after means mean_of_neighbours (both_have (pos 0 ∷ pos 1 ∷ pos 2 ∷ pos 3 ∷ []) (pos 0 ∷ pos 0 ∷ pos 0 ∷ pos 0 ∷ []))
-    ≡ both_have (pos 0 ∷ pos 1 ∷ pos 2 ∷ pos 1 ∷ []) (pos 0 ∷ pos 1 ∷ pos 2 ∷ pos 1 ∷ [])
+abbrev rising : List ℤ
+rising = pos 0 ∷ pos 1 ∷ pos 2 ∷ pos 3 ∷ pos 4 ∷ pos 5 ∷ pos 6 ∷ pos 7 ∷ []
+
+abbrev once_smooth : List ℤ
+once_smooth = pos 0 ∷ pos 1 ∷ pos 2 ∷ pos 3 ∷ pos 4 ∷ pos 5 ∷ pos 6 ∷ pos 3 ∷ []
+
+abbrev twice_smooth : List ℤ
+twice_smooth = pos 0 ∷ pos 1 ∷ pos 2 ∷ pos 3 ∷ pos 4 ∷ pos 5 ∷ pos 4 ∷ pos 3 ∷ []
+
+abbrev still : List ℤ
+still = pos 0 ∷ pos 0 ∷ pos 0 ∷ pos 0 ∷ pos 0 ∷ pos 0 ∷ pos 0 ∷ pos 0 ∷ []
+
+at_first : world_after means (on_line 4 (action.Assign eight (index 0) None) ∷ []) (opening_world means.shapes means.scalars) ≡ both_have rising still
+unfolding place_in
+at_first = simp fold-roll-Expr
+
+once : world_after means mean_of_neighbours (both_have rising still) ≡ both_have once_smooth once_smooth
 unfolding place_in
 once = simp fold-roll-Expr
 
-again : world_after means mean_of_neighbours (both_have (pos 0 ∷ pos 1 ∷ pos 2 ∷ pos 1 ∷ []) (pos 0 ∷ pos 1 ∷ pos 2 ∷ pos 1 ∷ []))
-    ≡ both_have (pos 0 ∷ pos 1 ∷ pos 1 ∷ pos 1 ∷ []) (pos 0 ∷ pos 1 ∷ pos 1 ∷ pos 1 ∷ [])
+again : world_after means mean_of_neighbours (both_have once_smooth once_smooth) ≡ both_have twice_smooth twice_smooth
 unfolding place_in
 again = simp fold-roll-Expr
 
-means_of_neighbours_twice : world_after means (times 2 mean_of_neighbours) (both_have (pos 0 ∷ pos 1 ∷ pos 2 ∷ pos 3 ∷ []) (pos 0 ∷ pos 0 ∷ pos 0 ∷ pos 0 ∷ []))
-    ≡ both_have (pos 0 ∷ pos 1 ∷ pos 1 ∷ pos 1 ∷ []) (pos 0 ∷ pos 1 ∷ pos 1 ∷ pos 1 ∷ [])
-means_of_neighbours_twice = ap (world_after means mean_of_neighbours) once ∙ again
+means_of_neighbours_twice : world_after means (on_line 4 (action.Assign eight (index 0) None) ∷ times 2 mean_of_neighbours) (opening_world means.shapes means.scalars) ≡ both_have twice_smooth twice_smooth
+means_of_neighbours_twice = ap (world_after means (times 2 mean_of_neighbours)) at_first ∙ ap (world_after means mean_of_neighbours) once ∙ again
+
+what_they_print : serial means (on_line 9 (action.PrintView eight) ∷ []) (both_have twice_smooth twice_smooth) ≡ prints (codes "0 1 2 3 4 5 4 3" ∷ [])
+unfolding place_in digits
+what_they_print = refl
 
 -- ---- what does not fit
 
@@ -324,7 +386,7 @@ a_column_across_its_row declared fit =
 one_position_shared : IsOverlap across along → ⊥
 one_position_shared o = by o.1.0 o.1.1 o.1.2 o.1.3 o.1.4 o.1.5
   where
-    by : (p q : List ℤ) → IsIn (row (pos 3)) p → IsIn (row (pos 3)) q → p ≢ q → cell_named across.slots p ≡ cell_named along.slots q → ⊥
+    by : (p q : List ℤ) → IsIn (row (pos 7)) p → IsIn (row (pos 7)) q → p ≢ q → cell_named across.slots p ≡ cell_named along.slots q → ⊥
     by [] q in_p in_q differ same = absurd in_p
     by (x ∷ y ∷ p) q in_p in_q differ same = absurd in_p.2
     by (x ∷ []) [] in_p in_q differ same = absurd in_q
