@@ -2,10 +2,10 @@
 use Rattle.std.proofs.Common.{refl, sym, ap, ◌∙◌, subst, inl, inr, ⊎_elim, arith, get_or}
 use Rattle.std.proofs.lemmas.Bool.{cases_eq, cases_lt}
 use Rattle.std.proofs.lemmas.List.{get_or_past, set_past, set-get_or, set-set}
-use Rattle.std.proofs.lemmas.List.Elements.{filter_map-append}
+use Rattle.std.proofs.lemmas.List.Elements.{All-contains, filter_map-append}
 use Rattle.std.specs.List.{cons_option}
 use Rattle.std.specs.Ordering.{int_eq}
-use Rattle.std.specs.Prelude.{◌≡◌, ◌≢◌, ℕ, ◌<◌, ◌≤◌, ℤ, pos, Bool, true, false, if◌then◌else◌, Option, Some, None, Ok, Err, List, [], ◌∷◌, ◌++◌, length, fold, flat_map, slice_set}
+use Rattle.std.specs.Prelude.{◌≡◌, ◌≢◌, ℕ, ◌<◌, ◌≤◌, ℤ, pos, Bool, true, false, if◌then◌else◌, Option, Some, None, Ok, Err, List, [], ◌∷◌, ◌++◌, length, fold, flat_map, slice_set, Contains, All}
 use Rattle.pooma_domain.specs.Cells.{Interval, cells_of, IsIn}
 use Rattle.pooma_view.specs.declared.slots.Slot.{Slot}
 use Rattle.pooma_view.specs.Slots.{cell_named, positions_of}
@@ -21,9 +21,9 @@ use Rattle.pooma_model.specs.Assigning.{Becomes, Fault, Given, Nothing, assigned
 use Rattle.pooma_model.specs.Declarations.{Declared, seen_in, shape_at, value_in}
 use Rattle.pooma_model.specs.Fit.{IsAssignFit}
 use Rattle.pooma_model.specs.Midway.{IsMidway, IsUnnamed}
-use Rattle.pooma_model.specs.Partitions.{IsPartition, changes_at, number_after}
+use Rattle.pooma_model.specs.Partitions.{IsPartition, StandOnce, changes_at, number_after}
 use Rattle.pooma_model.proofs.Changing.{OfNumbers, NamesApart, named_given, unnamed_kept, same_after}
-use Rattle.pooma_model.proofs.Lists.{Member, contains_of}
+use Rattle.pooma_model.proofs.Lists.{Member, contains_of, member_of, distinct_by_places}
 use Rattle.pooma_model.proofs.Partitioning.{OfCells, cells_once, is_in, is_cell, parts_once, same_cells}
 use Rattle.pooma_model.proofs.Reading.{OfLooking, own_number, all_left, all_right}
 
@@ -96,6 +96,19 @@ module _ (numbers : OfNumbers) (worlds : OfWorlds) (given : List ℤ → Given) 
       subst IsFull (sym (target_after here)) (numbers.full (array_of world target.array) (changes_at given target.slots ps) here)))
       (λ other. subst IsFull (sym (worlds.others world target.array array (changes_at given target.slots ps) other)) full)
       (cases_eq array target.array)
+
+-- where these are positions of the target, each of them once
+pub named_at : OfNumbers → OfWorlds → CellsApart → (target : Viewed) (given : List ℤ → Given) (ps : List (List ℤ)) (world : World) (p : List ℤ)
+    → IsFull (array_of world target.array) → All (IsIn (positions_of target.slots)) ps → StandOnce ps → Contains ps p → HasCell world target.array (cell_named target.slots p)
+    → number_of (changed world target.array (changes_at given target.slots ps)) target.array (cell_named target.slots p)
+    ≡ number_after (given p) (number_of world target.array (cell_named target.slots p))
+named_at numbers worlds apart target given ps world p full inside once there has =
+    ap (λ (a : Numbered). number_at a (cell_named target.slots p)) (target_after numbers worlds given target ps world full)
+    ∙ named_given numbers given target.slots (array_of world target.array) ps p full (distinct_by_places ps once)
+    (λ q r m l same. apart target.slots q r (within q m) (within r l) same) (member_of ps p there) has.1
+  where
+    within : (q : List ℤ) → Member ps q → IsIn (positions_of target.slots) q
+    within q m = All-contains (IsIn (positions_of target.slots)) ps q inside (contains_of ps q m)
 
 pub named_after : OfCells → OfNumbers → OfWorlds → CellsApart → (given : List ℤ → Given) (target : Viewed) (world : World) (p : List ℤ)
     → IsFull (array_of world target.array) → IsIn (positions_of target.slots) p → HasCell world target.array (cell_named target.slots p)

@@ -22,6 +22,10 @@ pub record IsPartition (whole : List Interval) (boxes : List (List Interval)) : 
 abbrev pub IsOfOthers : List (List Interval) → ℕ → List ℤ → Type 0
 IsOfOthers boxes k q = (j : ℕ) × (box : List Interval) × (j ≢ k) × (slice_get boxes j ≡ Some box) × IsIn box q
 
+-- no position stands at two places
+abbrev pub StandOnce : List (List ℤ) → Type 0
+StandOnce ps = (j k : ℕ) (q : List ℤ) → slice_get ps j ≡ Some q → slice_get ps k ≡ Some q → j ≡ k
+
 -- the fault of the first of these positions that has one
 abbrev pub fault_at : (List ℤ → Given) → List (List ℤ) → Option Fault
 fault_at given ps = first_of (λ p. fault_of p (given p)) ps

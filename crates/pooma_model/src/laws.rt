@@ -21,7 +21,7 @@ ghost use Rattle.pooma_model.specs.Assigning.{Becomes, Faults, Fault, Given, ass
 ghost use Rattle.pooma_model.specs.Declarations.{Declared, layout_at, seen_in, shape_at, value_in};
 ghost use Rattle.pooma_model.specs.Fit.{IsAssignFit, IsFit, IsWritable};
 ghost use Rattle.pooma_model.specs.Midway.{IsMidway, IsUnnamed, SeesMidway};
-ghost use Rattle.pooma_model.specs.Partitions.{IsFirstFault, IsLeastFault, IsOfOthers, IsPartition, changed_in_turn, changes_at, fault_at, number_after, numbers_at, numbers_in_turn};
+ghost use Rattle.pooma_model.specs.Partitions.{IsFirstFault, IsLeastFault, IsOfOthers, IsPartition, StandOnce, changed_in_turn, changes_at, fault_at, number_after, numbers_at, numbers_in_turn};
 ghost use Rattle.pooma_model.specs.Parts.{cut_axes, parts_of};
 ghost use Rattle.pooma_model.specs.Reducing.{reduced, scalar_given};
 ghost use Rattle.pooma_model.specs.Runs.{IsWorldOf, followed_by, with_effect, world_after, world_of};
@@ -53,6 +53,29 @@ pub fn assignments_change_cells()
     ensures full { (declared : Declared) (target : Viewed) (value : Expr) (mask : Option Expr) (world new : World) (array : ℕ)
         → assigned declared target value mask world ≡ Becomes new
         → IsFull (array_of world array) → IsFull (array_of new array) }
+{
+    order_of_cells();
+    numbers_of_cells();
+    worlds_change();
+    cells_apart();
+}
+
+/// Some positions of a target, as a law for proofs: what they change where each of them is given something, as a part of an
+/// assignment does up to its fault. A cell that one of them names has what it is given, and all else is as it was.
+pub fn positions_change_cells()
+    ensures named { (target : Viewed) (given : List ℤ → Given) (ps : List (List ℤ)) (world : World) (p : List ℤ)
+        → IsFull (array_of world target.array) → All (IsIn (positions_of target.slots)) ps → StandOnce ps → Contains ps p
+        → HasCell world target.array (cell_named target.slots p)
+        → number_of (changed world target.array (changes_at given target.slots ps)) target.array (cell_named target.slots p)
+        ≡ number_after (given p) (number_of world target.array (cell_named target.slots p)) }
+    ensures unnamed { (target : Viewed) (given : List ℤ → Given) (ps : List (List ℤ)) (world : World) (array : ℕ) (c : List ℤ)
+        → IsFull (array_of world target.array) → IsUnnamed target ps array c
+        → number_of (changed world target.array (changes_at given target.slots ps)) array c ≡ number_of world array c }
+    ensures area { (target : Viewed) (given : List ℤ → Given) (ps : List (List ℤ)) (world : World) (array : ℕ)
+        → (array_of (changed world target.array (changes_at given target.slots ps)) array).area ≡ (array_of world array).area }
+    ensures full { (target : Viewed) (given : List ℤ → Given) (ps : List (List ℤ)) (world : World) (array : ℕ)
+        → IsFull (array_of world array) → IsFull (array_of (changed world target.array (changes_at given target.slots ps)) array) }
+    ensures front { (box : List Interval) (n : ℕ) → StandOnce (take n (cells_of box)) }
 {
     order_of_cells();
     numbers_of_cells();
