@@ -47,6 +47,7 @@ impl Declarations {
         }
     }
 
+    /// One array more, and its number. Only want of memory refuses it; then all is as before.
     pub fn declare(
         &mut self,
         _alloc: Global,
@@ -66,6 +67,7 @@ impl Declarations {
         Ok(array)
     }
 
+    /// One scalar more, and its number.
     pub fn scalar(&mut self) -> u32
         requires { self.old.scalars < 2 ^ 32 - 1 }
         ensures number { result ≡ self.old.scalars }
@@ -76,6 +78,7 @@ impl Declarations {
         scalar
     }
 
+    /// How many arrays there are.
     pub fn arrays(&self) -> u32
         ensures count { result ≡ length self.now.shapes }
         ensures valid { IsDeclaring self.now }
@@ -83,6 +86,7 @@ impl Declarations {
         self.arrays.len() as u32
     }
 
+    /// The shape of an array.
     pub fn shape(&self, array: u32) -> &Shape
         requires { array < length self.now.shapes }
         ensures { slice_get self.now.shapes array ≡ Some (shape_of result.now) }
@@ -90,6 +94,7 @@ impl Declarations {
         &self.arrays[array as usize].shape
     }
 
+    /// The layout of an array.
     pub fn layout(&self, array: u32) -> &Layout
         requires { array < length self.now.shapes }
         ensures { slice_get self.now.layouts array ≡ Some result.now }
@@ -97,6 +102,7 @@ impl Declarations {
         &self.arrays[array as usize].layout
     }
 
+    /// How many scalars there are.
     pub fn scalars(&self) -> u32
         ensures { result ≡ self.now.scalars }
     {

@@ -34,6 +34,7 @@ impl Model for Turns {
 }
 
 impl Turns {
+    /// Outside of every repeat.
     pub fn new() -> Turns
         ensures { result ≡ [] }
     {

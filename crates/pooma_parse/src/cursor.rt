@@ -46,6 +46,7 @@ fn same_kind(a: TokenKind, b: TokenKind) -> bool
 }
 
 impl<'a> Cursor<'a> {
+    /// The tokens of the line, none of which is passed yet.
     pub fn new(line: &'a [u8], tokens: &'a [Token]) -> Cursor<'a>
         requires { All (IsLongest line.now) tokens.now }
         ensures { result ≡ map (lexeme_of line.now) tokens.now }
@@ -92,6 +93,7 @@ impl<'a> Cursor<'a> {
         }
     }
 
+    /// Whether this sign comes next.
     pub fn begins_sign(&self, text: &[u8]) -> bool
         ensures { result ≡ reader.begins_sign text.now self.now }
     {
@@ -122,6 +124,7 @@ impl<'a> Cursor<'a> {
         found
     }
 
+    /// Goes past this sign, or refuses the line where it does not come next.
     #[tactic(auto, unfolding(crate::specs::Reader::expect))]
     pub fn expect_sign(&mut self, text: &[u8]) -> Result<(), LineError>
         ensures { Reads (reader.expect_sign text.now) self.old result self.new }
@@ -132,6 +135,7 @@ impl<'a> Cursor<'a> {
         Ok(())
     }
 
+    /// Goes past this word, or refuses the line where it does not come next.
     #[tactic(auto, unfolding(crate::specs::Reader::expect))]
     pub fn expect_word(&mut self, text: &[u8]) -> Result<(), LineError>
         ensures { Reads (reader.expect_word text.now) self.old result self.new }
@@ -156,6 +160,7 @@ impl<'a> Cursor<'a> {
         }
     }
 
+    /// Whether a number comes next.
     #[tactic(auto, unfolding(crate::specs::Reader::begins_number))]
     pub fn begins_number(&self) -> bool
         ensures { result ≡ reader.begins_number self.now }
