@@ -301,3 +301,133 @@ fn numbers_and_single_bytes(rt: HostRuntime) -> Result<(), Fail> {
     }
     Ok(())
 }
+
+/// The words of lines, and of each word whether the line without it, with it twice, and with `%` for it is one (`+` or `.`).
+const WORDS: [(&[&[u8]], &[u8]); 14] = [
+    (
+        &[
+            b"layout", b"L", b"(", b"0", b":", b"3", b")", b"blocks", b"(", b"2", b")",
+        ],
+        b"... ... ... ... ... ... ... ... ... ... ...",
+    ),
+    (
+        &[
+            b"layout", b"L", b"(", b"-", b"9", b":", b"3", b")", b"cuts", b"(", b"(", b"4", b",",
+            b"7", b")", b")",
+        ],
+        b"... ... ... +.. ... ... ... ... ... ... ... ... ... ... ... ...",
+    ),
+    (
+        &[
+            b"brick", b"A", b"(", b"0", b":", b"3", b",", b"1", b":", b"2", b")",
+        ],
+        b"... ... ... ... ... ... ... ... ... ... ...",
+    ),
+    (&[b"array", b"A", b"on", b"L"], b"... ... ... ..."),
+    (
+        &[
+            b"field",
+            b"U",
+            b"on",
+            b"L",
+            b"faces",
+            b"constant",
+            b"-",
+            b"1",
+            b",",
+            b"periodic",
+        ],
+        b"... ... ... ... ... ... +.. ... ... ...",
+    ),
+    (
+        &[
+            b"stencil", b"S", b"lower", b"(", b"1", b")", b"upper", b"(", b"0", b")", b"=", b"@",
+            b"(", b"0", b")",
+        ],
+        b"... ... ... ... ... ... ... ... ... ... ... +.. ... ... ...",
+    ),
+    (
+        &[b"A", b"=", b"-", b"1", b"+", b"2"],
+        b"... ... ++. ... ..+ ...",
+    ),
+    (
+        &[b"A", b"[", b"0", b":", b"3", b":", b"2", b"]", b"=", b"B"],
+        b"... ... ... ... ... ... ... ... ... ...",
+    ),
+    (
+        &[b"A", b"=", b"min", b"(", b"1", b",", b"(", b"2", b")", b")"],
+        b"... ... ... ... ... ... ... ... ... ...",
+    ),
+    (
+        &[
+            b"A", b"=", b"where", b"(", b"B", b",", b"1", b",", b"index", b"(", b"0", b")", b")",
+        ],
+        b"... ... ... ... ... ... ... ... +.. ... ... ... ...",
+    ),
+    (
+        &[b"scalar", b"s", b"=", b"max", b"(", b"A", b")"],
+        b"... ... ... +.. ... ... ...",
+    ),
+    (&[b"print", b"A", b"[", b"0", b"]"], b"... ... ... ... ..."),
+    (&[b"repeat", b"2"], b"... ..."),
+    (&[b"block"], b"+.."),
+];
+
+// Puts a word at the end of a line, and a blank behind it.
+fn put_word(line: &mut Vec<u8>, word: &[u8]) -> Result<(), AllocError> {
+    line.extend_from_slice(word)?;
+    line.push(b' ')?;
+    Ok(())
+}
+
+// The line of these words, of which one gives way to others.
+fn changed(
+    alloc: Global,
+    words: &[&[u8]],
+    at: usize,
+    others: &[&[u8]],
+) -> Result<Vec<u8>, AllocError> {
+    let mut line = Vec::new(alloc);
+    for (place, word) in words.iter().enumerate() {
+        if place != at {
+            put_word(&mut line, word)?;
+            continue;
+        }
+        for other in others {
+            put_word(&mut line, other)?;
+        }
+    }
+    Ok(line)
+}
+
+// Whether it is a line still: `+` or `.`.
+fn mark(alloc: Global, words: &[&[u8]], at: usize, others: &[&[u8]]) -> Result<u8, AllocError> {
+    let line = changed(alloc, words, at, others)?;
+    Ok(if parse_line(alloc, &line).is_ok() {
+        b'+'
+    } else {
+        b'.'
+    })
+}
+
+// The marks of each word of a line.
+fn marks(alloc: Global, words: &[&[u8]]) -> Result<Vec<u8>, AllocError> {
+    let mut marks = Vec::new(alloc);
+    for (at, word) in words.iter().enumerate() {
+        if at > 0 {
+            marks.push(b' ')?;
+        }
+        marks.push(mark(alloc, words, at, &[])?)?;
+        marks.push(mark(alloc, words, at, &[*word, *word])?)?;
+        marks.push(mark(alloc, words, at, &[b"%"])?)?;
+    }
+    Ok(marks)
+}
+
+#[test]
+fn a_word_less_or_more_is_mostly_no_line(rt: HostRuntime) -> Result<(), Fail> {
+    for (words, expected) in WORDS {
+        assert_eq!(rt; marks(rt.alloc(), words)?.as_slice(), expected);
+    }
+    Ok(())
+}
