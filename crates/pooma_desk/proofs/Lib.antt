@@ -1,0 +1,10 @@
+pub mod Fronts
+pub mod Fitting
+pub mod Parting
+pub mod Keeping
+pub mod Moves
+pub mod Turning
+pub mod Calls
+pub mod Sharing
+pub mod Asking
+pub mod Lending
