@@ -1,0 +1,32 @@
+ghost use Rattle.std.specs.Prelude.{◌≡◌, ◌↔◌, ◌<◌, ℕ, IsTrue, Some, Option, List, length, slice_get, All};
+ghost use Rattle.pooma_domain.specs.Cells.{Interval};
+ghost use Rattle.pooma_field.specs.Numbered.{Numbered};
+ghost use Rattle.pooma_expr.specs.Trees.{views_of};
+ghost use Rattle.pooma_view.specs.Views.{Viewed};
+ghost use Rattle.pooma_machine.specs.Steps.{IsRequestList};
+ghost use Rattle.pooma_machine.specs.Values.{lent_by, written_object};
+ghost use Rattle.pooma_piece.specs.Lent.{IsFitting, Names, fits, lent_for, read_in};
+ghost use Rattle.pooma_piece.specs.Pieces.{AreReadAlike, Pieced, requests_of};
+ghost use Rattle.pooma_piece.specs.Requests.{requests_for};
+
+use pooma_domain::order_of_cells;
+
+/// What pieces ask for, as a law for proofs: a list of requests, the one to write for the object that is written. What objects
+/// lend for these requests to a piece is, for each object that it names, the object's own content, or area.
+pub fn objects_lend()
+    ensures form { (write : Option ℕ) (reads : List ℕ) → IsRequestList (requests_for write reads) }
+    ensures written { (write : Option ℕ) (reads : List ℕ) → written_object (requests_for write reads) ≡ write }
+    ensures contents { (piece : Pieced) (objects : List Numbered) (o : ℕ) → All (λ r. r.object < length objects) (requests_of piece) → Names piece o
+        → lent_for piece (lent_by objects (requests_of piece)).written (lent_by objects (requests_of piece)).reads o ≡ slice_get objects o }
+    ensures areas { (piece : Pieced) (areas : List (List Interval)) (o : ℕ) → All (λ r. r.object < length areas) (requests_of piece) → Names piece o
+        → lent_for piece (lent_by areas (requests_of piece)).written (lent_by areas (requests_of piece)).reads o ≡ slice_get areas o }
+    ensures read_in { (piece : Pieced) (k : ℕ) (view : Viewed) (object : ℕ) → AreReadAlike (views_of piece.code) piece.reads
+        → slice_get (views_of piece.code) k ≡ Some view → slice_get piece.reads k ≡ Some object → read_in piece view ≡ object }
+{}
+
+/// When a piece fits, as a law for proofs: each cell that it reads or sets lies in the area of the patch in which it does.
+pub fn pieces_fit()
+    ensures { (piece : Pieced) (written : Option (List Interval)) (reads : List (List Interval)) → IsTrue (fits piece written reads) ↔ IsFitting piece written reads }
+{
+    order_of_cells();
+}
