@@ -3,6 +3,7 @@ pub mod Asked
 pub mod Seen
 pub mod Apart
 pub mod Naming
-pub mod Fitting
+pub mod Areas
 pub mod Totals
 pub mod Steps
+pub mod Tests

@@ -1,4 +1,4 @@
-use Rattle.pooma_piece.proofs.Fitting.{fits_is}
+use Rattle.pooma_piece.proofs.Areas.{fits_is}
 use Rattle.pooma_piece.proofs.laws.pieces_fit.Goals as goal
 
 pub returns : goal.returns

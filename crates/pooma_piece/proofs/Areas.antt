@@ -21,7 +21,7 @@ both_true : (a b : Bool) → a ≡ true → b ≡ true → (a && b) ≡ true
 both_true true b e f = f
 both_true false b e f = absurd (cc)
 
-passes_in : (area : List Interval) (c : List ℤ) → IsIn area c → is_in area c ≡ true
+pub passes_in : (area : List Interval) (c : List ℤ) → IsIn area c → is_in area c ≡ true
 passes_in [] [] h = refl
 passes_in [] (x ∷ xs) h = absurd h
 passes_in (axis ∷ axes) [] h = absurd h

@@ -1,0 +1,9 @@
+use Rattle.std.proofs.Common.{◌≡◌, true, take}
+use Rattle.std.specs.List.{list_all}
+use Rattle.pooma_domain.specs.Cells.{cells_of}
+use Rattle.pooma_view.specs.Slots.{cell_named}
+use Rattle.pooma_piece.specs.Lent.{is_in}
+use Rattle.pooma_piece.proofs.fitting.has_cells.Given as goal
+
+abbrev pub invariant-loop-k : goal.invariant-loop-k
+invariant-loop-k l = list_all (λ p. is_in l.area (cell_named l.view.slots p)) (take l.k (cells_of l.positions)) ≡ true

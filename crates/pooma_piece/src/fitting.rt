@@ -1,0 +1,105 @@
+//! The test of what a piece asks of the patches that are lent to it.
+ghost use Rattle.std.specs.Prelude.{◌≡◌, ◌<◌, ℕ, Some, option_map, map, length, slice_get};
+ghost use Rattle.std.specs.Option.{option_copied};
+ghost use Rattle.pooma_domain.specs.Cells.{cells_of};
+ghost use Rattle.pooma_view.specs.Views.{Viewed};
+ghost use Rattle.pooma_expr.specs.Trees.{views_of};
+ghost use Rattle.pooma_machine.specs.Slots.{contents};
+ghost use Rattle.pooma_piece.specs.Kept.{sources_of};
+ghost use Rattle.pooma_piece.specs.Lent.{fits, has_cells, lent_for, read_in};
+ghost use Rattle.pooma_piece.specs.Meaning.{area_of, content_of};
+ghost use Rattle.pooma_piece.specs.Pieces.{HasPositions};
+ghost use Rattle.pooma_piece.specs.Sources.{from_source};
+
+use crate::piece::Piece;
+use crate::source::Source;
+use crate::task::Task;
+use pooma_domain::BoxN;
+use pooma_patch::Patch;
+use pooma_view::View;
+use std::sync::Arc;
+
+// Whether the area has each cell that the view names at these positions.
+fn has_cells(area: &BoxN, view: &View, positions: &BoxN) -> bool
+    requires { HasPositions positions.now view.now }
+    ensures { result ≡ has_cells (Some area.now) view.now.slots (cells_of positions.now) }
+{
+    for k in 0..positions.count() {
+        let p = positions.cell_at(k);
+        if !area.contains(&view.cell(&p)) {
+            return false;
+        }
+    }
+    true
+}
+
+// The area of the patch that is found at a source, where one is lent there.
+fn area_at(source: Source, write: Option<&Patch>, reads: &[Arc<Patch>]) -> Option<BoxN>
+    ensures { result ≡ from_source source (option_map area_of (option_map content_of (option_copied write.entry))) (map area_of (contents content_of reads.now)) }
+{
+    match source {
+        Source::Written => match write {
+            Some(patch) => Some(patch.area()),
+            None => None,
+        },
+        Source::Read(place) => {
+            if place < reads.len() {
+                let patch: &Patch = &reads[place];
+                Some(patch.area())
+            } else {
+                None
+            }
+        }
+    }
+}
+
+fn view_at(piece: &Piece, read: usize) -> &View
+    requires { read < length (views_of piece.now.code) }
+    ensures { slice_get (views_of piece.now.code) read ≡ Some result.now }
+{
+    &piece.code().reads()[read]
+}
+
+// Where the patch of a read is found.
+fn source_at(piece: &Piece, read: usize) -> Source
+    requires { read < length piece.now.reads }
+    ensures { slice_get (sources_of piece.now) read ≡ Some result }
+{
+    piece.sources()[read]
+}
+
+// Whether the patch of a read has each cell that is read in it.
+fn finds(piece: &Piece, read: usize, write: Option<&Patch>, reads: &[Arc<Patch>]) -> bool
+    requires { read < length (views_of piece.now.code) }
+    ensures { (view : Viewed) → slice_get (views_of piece.now.code) read ≡ Some view
+        → result ≡ has_cells (lent_for piece.now (option_map area_of (option_map content_of (option_copied write.entry))) (map area_of (contents content_of reads.now)) (read_in piece.now view)) view.slots (cells_of piece.now.positions) }
+{
+    // For what it promises: there are as many reads as views.
+    let _code = piece.code();
+    let view = view_at(piece, read);
+    match area_at(source_at(piece, read), write, reads) {
+        Some(area) => has_cells(&area, view, &piece.positions()),
+        None => false,
+    }
+}
+
+impl Piece {
+    /// Whether the piece fits the patches that are lent to it, in the order of its requests: whether each cell that it reads
+    /// or sets lies in the area of the patch in which it does. `run_piece` asks for that. The test looks at each of these cells.
+    pub fn fits(&self, write: Option<&Patch>, reads: &[Arc<Patch>]) -> bool
+        ensures { result ≡ fits self.now (option_map area_of (option_map content_of (option_copied write.entry))) (map area_of (contents content_of reads.now)) }
+    {
+        for k in 0..self.code().reads().len() {
+            if !finds(self, k, write, reads) {
+                return false;
+            }
+        }
+        match *self.task() {
+            Task::Assign { target } => match write {
+                Some(patch) => has_cells(&patch.area(), &target, &self.positions()),
+                None => false,
+            },
+            Task::Reduce { reduction: _ } => true,
+        }
+    }
+}
