@@ -1,0 +1,8 @@
+mod GivenNumbers
+mod InsideCells
+mod LookedUp
+mod RowTexts
+mod SerialSteps
+mod Walks
+mod WholeValues
+mod WorldsKept

@@ -1,0 +1,3 @@
+pub mod Looking
+pub mod Plain
+pub mod Ran
