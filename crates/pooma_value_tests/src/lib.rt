@@ -1,11 +1,13 @@
-//! What the calls on numbers, boxes, views, fields, patches and stores answer: worked examples and tables, one file for each
-//! crate under test.
+//! What the calls on numbers, boxes, views, expressions, stencils, fields, layouts, patches, stores and programs answer: worked examples and
+//! tables, one file for each crate under test.
 #![tactic(auto)]
 
 #[cfg(test)]
 mod compress;
 #[cfg(test)]
 mod domain;
+#[cfg(test)]
+mod expr;
 #[cfg(test)]
 mod field;
 #[cfg(test)]
@@ -15,7 +17,11 @@ mod model;
 #[cfg(test)]
 mod num;
 #[cfg(test)]
+mod numbers;
+#[cfg(test)]
 mod patch;
+#[cfg(test)]
+mod stencil;
 #[cfg(test)]
 mod store;
 #[cfg(test)]

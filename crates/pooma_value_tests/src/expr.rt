@@ -1,0 +1,198 @@
+//! Expressions and reductions: worked values and faults, with memory enough for each code.
+ghost use Rattle.std.specs.Prelude.{◌≡◌, IfSome};
+
+use crate::numbers::Numbers;
+use pooma_domain::{Cell, Strided};
+use pooma_expr::{Code, Expr, Op, Partial, Reduction, eval_at};
+use pooma_num::FaultKind::{self, Overflow, ZeroDivisor};
+use pooma_view::{Slot, View};
+use sqlite_items::Boxed;
+use std::alloc::{AllocError, Global};
+use std::test::Fail;
+
+const MOST: i64 = i64::MAX;
+
+fn bin(alloc: Global, op: Op, a: Expr, b: Expr) -> Result<Expr, AllocError> {
+    Ok(Expr::Bin(op, Boxed::new(alloc, a)?, Boxed::new(alloc, b)?))
+}
+
+fn neg(alloc: Global, a: Expr) -> Result<Expr, AllocError> {
+    Ok(Expr::Neg(Boxed::new(alloc, a)?))
+}
+
+fn choice(alloc: Global, c: Expr, a: Expr, b: Expr) -> Result<Expr, AllocError> {
+    let c = Boxed::new(alloc, c)?;
+    Ok(Expr::Where(c, Boxed::new(alloc, a)?, Boxed::new(alloc, b)?))
+}
+
+// The value at a position by a code that shares another's, where the scalars and the reads have these numbers. None where
+// the expression is too deep, or has more reads, scalars or axes.
+fn value(
+    alloc: Global,
+    expr: &Expr,
+    scalars: &[i64],
+    numbers: &[i64],
+    p: &Cell,
+) -> Result<Option<Result<i64, FaultKind>>, AllocError> {
+    if !expr.is_within_depth(256) {
+        return Ok(None);
+    }
+    if expr.reads_left(64).is_none() {
+        return Ok(None);
+    }
+    if expr.scalars_needed() > scalars.len() {
+        return Ok(None);
+    }
+    if expr.axes_needed() > p.dims() {
+        return Ok(None);
+    }
+    let code = Code::of(alloc, expr, scalars)?.shared()?;
+    Ok(Some(eval_at(&code, &Numbers { numbers }, p)))
+}
+
+// The value of an expression without reads and scalars.
+fn alone(
+    alloc: Global,
+    expr: &Expr,
+    p: &Cell,
+) -> Result<Option<Result<i64, FaultKind>>, AllocError> {
+    value(alloc, expr, &[], &[], p)
+}
+
+// `(-MOST - 1) / -1`
+fn least_by_minus_one(alloc: Global) -> Result<Expr, AllocError> {
+    let most = neg(alloc, Expr::Literal(MOST))?;
+    let least = bin(alloc, Op::Sub, most, Expr::Literal(1))?;
+    let one = neg(alloc, Expr::Literal(1))?;
+    bin(alloc, Op::Div, least, one)
+}
+
+// `where(0, 1 / 0, 5)`
+fn other_branch(alloc: Global) -> Result<Expr, AllocError> {
+    let fault = bin(alloc, Op::Div, Expr::Literal(1), Expr::Literal(0))?;
+    choice(alloc, Expr::Literal(0), fault, Expr::Literal(5))
+}
+
+// `1 / 0 + (MOST + 1)`
+fn two_faults(alloc: Global) -> Result<Expr, AllocError> {
+    let first = bin(alloc, Op::Div, Expr::Literal(1), Expr::Literal(0))?;
+    let second = bin(alloc, Op::Add, Expr::Literal(MOST), Expr::Literal(1))?;
+    bin(alloc, Op::Add, first, second)
+}
+
+#[test]
+fn faults_without_a_position(rt: HostRuntime) -> Result<(), Fail> {
+    let alloc = rt.alloc();
+    let at = Cell::none();
+    let zero = bin(alloc, Op::Rem, Expr::Literal(5), Expr::Literal(0))?;
+    assert_eq!(rt;
+        alone(alloc, &least_by_minus_one(alloc)?, &at)?,
+        Some(Err(Overflow))
+    );
+    assert_eq!(rt; alone(alloc, &zero, &at)?, Some(Err(ZeroDivisor)));
+    assert_eq!(rt;
+        alone(alloc, &two_faults(alloc)?, &at)?,
+        Some(Err(ZeroDivisor))
+    );
+    assert_eq!(rt; alone(alloc, &other_branch(alloc)?, &at)?, Some(Ok(5)));
+    Ok(())
+}
+
+#[test]
+fn values_at_positions(rt: HostRuntime) -> Result<(), Fail> {
+    let alloc = rt.alloc();
+    let divisor = bin(alloc, Op::Sub, Expr::Literal(2), Expr::Index(0))?;
+    let quotient = bin(alloc, Op::Div, Expr::Literal(5), divisor)?;
+    let low = neg(alloc, Expr::Literal(MOST))?;
+    let below = bin(alloc, Op::Sub, low, Expr::Index(0))?;
+    let table = [
+        (0, Ok(2), Ok(-MOST)),
+        (1, Ok(5), Ok(i64::MIN)),
+        (2, Err(ZeroDivisor), Err(Overflow)),
+        (3, Ok(-5), Err(Overflow)),
+    ];
+    for (x, by, under) in table {
+        let at = Cell::of1(x);
+        assert_eq!(rt; alone(alloc, &quotient, &at)?, Some(by));
+        assert_eq!(rt; alone(alloc, &below, &at)?, Some(under));
+    }
+    assert_eq!(rt; alone(alloc, &quotient, &Cell::none())?, None);
+    Ok(())
+}
+
+#[test]
+fn reads_and_scalars_in_the_order_of_the_text(rt: HostRuntime) -> Result<(), Fail> {
+    let alloc = rt.alloc();
+    let row = Slot::Along(Strided::of(0, 9, 1).ok_or("some numbers")?);
+    let product = bin(
+        alloc,
+        Op::Mul,
+        Expr::Read(View::new(1, &[row])),
+        Expr::Scalar(1),
+    )?;
+    let sum = bin(alloc, Op::Add, Expr::Read(View::new(0, &[row])), product)?;
+    let at = Cell::of1(4);
+    assert_eq!(rt; value(alloc, &sum, &[9, 3], &[5, 7], &at)?, Some(Ok(26)));
+    assert_eq!(rt; value(alloc, &sum, &[9], &[5, 7], &at)?, None);
+    Ok(())
+}
+
+// A reduction of which these numbers are done. None where they are more than some.
+fn partial_of(reduction: Reduction, numbers: &[i64]) -> Option<Partial>
+    ensures { IfSome result (λ part. part.reduction ≡ reduction) }
+{
+    let mut part = Partial::start(reduction);
+    for x in numbers {
+        if part.count() >= 1000 {
+            return None;
+        }
+        part.push(*x);
+    }
+    Some(part)
+}
+
+// The reduction of two lists of numbers, one after the other, of which each is reduced alone. None where there is no number.
+fn reduced(reduction: Reduction, low: &[i64], high: &[i64]) -> Option<Result<i64, FaultKind>> {
+    let mut first = partial_of(reduction, low)?;
+    let second = partial_of(reduction, high)?;
+    let count = first.count() + second.count();
+    if count == 0 || count > 2000 {
+        return None;
+    }
+    first.merge(second);
+    Some(first.finish())
+}
+
+#[test]
+fn reductions_of_a_list_in_two_parts(rt: HostRuntime) {
+    let rows = [
+        (Reduction::Sum, 3),
+        (Reduction::Min, -2),
+        (Reduction::Max, 3),
+        (Reduction::All, 0),
+        (Reduction::Any, 1),
+        (Reduction::Count, 5),
+        (Reduction::BitAnd, 0),
+        (Reduction::BitOr, -1),
+    ];
+    for (reduction, value) in rows {
+        assert_eq!(rt;
+            reduced(reduction, &[-2, -1], &[0, 1, 2, 3]),
+            Some(Ok(value))
+        );
+    }
+}
+
+#[test]
+fn only_the_whole_sum_has_to_fit(rt: HostRuntime) {
+    assert_eq!(rt;
+        reduced(Reduction::Sum, &[MOST, MOST], &[-MOST]),
+        Some(Ok(MOST))
+    );
+    assert_eq!(rt;
+        reduced(Reduction::Sum, &[MOST], &[1, 0]),
+        Some(Err(Overflow))
+    );
+    assert_eq!(rt; reduced(Reduction::Min, &[], &[4]), Some(Ok(4)));
+    assert_eq!(rt; reduced(Reduction::Min, &[], &[]), None);
+}
