@@ -1,0 +1,16 @@
+pub mod Borders
+pub mod Boxes
+pub mod Capped
+pub mod FirstFailed
+pub mod Guards
+pub mod Heads
+pub mod Inside
+pub mod Lengths
+pub mod Lists
+pub mod NameLists
+pub mod Offsets
+pub mod Ranges
+pub mod Rows
+pub mod Shapes
+pub mod Taken
+pub mod Unique

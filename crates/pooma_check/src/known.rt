@@ -1,0 +1,82 @@
+//! What the lines before a line have made known.
+ghost use Rattle.std.specs.Prelude.{◌≡◌, ◌+◌, ◌<◌, ◌≤◌, None, length, OnOk};
+ghost use Rattle.std.specs.Map.{lookup};
+ghost use Rattle.std.specs.Str.{bytes_eq};
+ghost use Rattle.pooma_domain.specs.Cells.{cells_of};
+ghost use Rattle.pooma_field.specs.ShapeOf.{shape_of};
+ghost use Rattle.pooma_layout.specs.Patches.{allocated_count, physical_of, total_of};
+ghost use Rattle.pooma_check.specs.After.{with_layout, with_new_array};
+ghost use Rattle.pooma_check.specs.Kept.{known_of};
+ghost use Rattle.pooma_check.specs.Known.{nothing_known};
+
+use crate::names::{Named, Names};
+use pooma_field::Shape;
+use pooma_layout::Layout;
+use pooma_model::Draft;
+use pooma_stencil::Stencil;
+use std::alloc::{AllocError, Global};
+
+/// The names, the layouts and stencils that have names, the program so far, and what is counted.
+#[derive(Debug, Drop)]
+pub struct Known<'a> {
+    pub names: Names<'a>,
+    pub layouts: Vec<Layout>,
+    pub stencils: Vec<Stencil>,
+    pub draft: Draft,
+    /// The cells that all patches of all arrays allocate.
+    pub allocated: u64,
+    /// The statements that are executed, those in repeats as often as they will be.
+    pub executed: u64,
+    /// The values that are printed, the same way.
+    pub printed: u64,
+}
+
+/// What is known before the first line.
+pub fn nothing(alloc: Global) -> Known<'static>
+    ensures { known_of result ≡ nothing_known }
+{
+    Known {
+        names: Names::new(alloc),
+        layouts: Vec::new(alloc),
+        stencils: Vec::new(alloc),
+        draft: Draft::new(alloc),
+        allocated: 0,
+        executed: 0,
+        printed: 0,
+    }
+}
+
+/// Notes a layout by its name. Its only error is want of memory.
+pub fn note_layout<'a>(
+    known: &mut Known<'a>,
+    name: &'a [u8],
+    layout: Layout,
+) -> Result<(), AllocError>
+    requires { lookup (bytes_eq name.now) known.old.names ≡ None }
+    ensures { OnOk result (known_of known.new ≡ with_layout name.now layout (known_of known.old)) }
+{
+    let number = known.layouts.len();
+    known.layouts.push(layout)?;
+    known.names.declare(name, Named::Layout(number))
+}
+
+/// Declares an array by its name. Its only error is want of memory.
+pub fn note_array<'a>(
+    alloc: Global,
+    known: &mut Known<'a>,
+    name: &'a [u8],
+    shape: Shape,
+    layout: Layout,
+) -> Result<(), AllocError>
+    requires new { lookup (bytes_eq name.now) known.old.names ≡ None }
+    requires few_arrays { length known.old.draft.declared.shapes < 256 }
+    requires physical { physical_of layout ≡ shape.physical }
+    requires total { total_of layout ≡ shape.total }
+    requires few_cells { length (cells_of shape.total) ≤ 4194304 }
+    requires few_allocated { known.old.allocated + allocated_count layout ≤ 16777216 }
+    ensures { OnOk result (known_of known.new ≡ with_new_array name.now (shape_of shape) layout (known_of known.old)) }
+{
+    known.allocated += layout.allocated_cells();
+    let number = known.draft.declare(alloc, shape, layout)?;
+    known.names.declare(name, Named::Array(number))
+}

@@ -1,0 +1,13 @@
+ghost use Rattle.std.specs.Prelude.{◌≡◌, ℕ, List};
+ghost use Rattle.pooma_check.specs.Scripts.{Script, IsScript};
+
+use pooma_parse::one_form;
+
+/// The law that bytes are one script at the most: one program, or one line that is refused and one cause.
+///
+/// It does nothing; its contract is for proofs about what a script is.
+pub fn one_script()
+    ensures { (bytes : List ℕ) (a b : Script) → IsScript bytes a → IsScript bytes b → a ≡ b }
+{
+    one_form();
+}
