@@ -23,6 +23,7 @@ impl<W: Work> Desk<W> {
             seat,
             next,
         } = pass;
+        // Step 1.
         let other = self.table.shared.split_seat::<Shares>(&mut place);
         let first = Pass {
             place,
@@ -62,6 +63,7 @@ impl<W: Work> Desk<W> {
             seat: _,
             next: least,
         } = other;
+        // Step 2, and the load that ends it.
         self.table.shared.join_seat::<Shares>(&mut place, joining);
         self.table.shared.load::<Merge>(&mut place, 0);
         Pass {
