@@ -1,6 +1,8 @@
-//! What queues and the iterate machine answer: worked examples and tables, one file for each crate under test.
+//! What queues, the iterate machine and the desk answer: worked examples and tables, one file for each crate under test.
 #![tactic(auto)]
 
+#[cfg(test)]
+mod desk;
 #[cfg(test)]
 mod law;
 #[cfg(test)]
