@@ -1,6 +1,9 @@
 pub mod AlongAxes
 pub mod CellPlaces
 pub mod Lookups
+pub mod SlabBoxes
 pub mod SlabCells
+pub mod SlabList
+pub mod SlabValues
 pub mod SourceCells
 pub mod Worked

@@ -1,10 +1,10 @@
 -- Looking up by the greatest axis.
 use Rattle.std.proofs.Common.{refl, sym, ◌∙◌, arith}
-use Rattle.std.specs.Prelude.{◌≡◌, ℕ, zero, suc, ℤ, Bool, Some, List, [], ◌∷◌, slice_get, slice_set}
+use Rattle.std.specs.Prelude.{◌≡◌, ℕ, zero, suc, ℤ, Bool, Option, None, Some, List, [], ◌∷◌, slice_get, slice_set}
 use Rattle.pooma_domain.specs.Cells.{Interval, IsIn}
 use Rattle.pooma_field.specs.declared.faces.Ends.{Ends}
 use Rattle.pooma_field.specs.Faces.{facing}
-use Rattle.pooma_field.specs.Look.{along, along_all}
+use Rattle.pooma_field.specs.Look.{along, along_all, looked_up}
 use Rattle.pooma_field.specs.Shapes.{slab_axes}
 use Rattle.pooma_field.specs.Updaters.{updated}
 use Rattle.pooma_field.proofs.AlongAxes.{along_inside, along_outside, updated_by_inside}
@@ -38,3 +38,12 @@ looked_up_outside high zero (p ∷ axes) (t ∷ total) (e ∷ faces) numbers (z 
 looked_up_outside high (suc n) (p ∷ axes) (t ∷ total) (e ∷ faces) numbers (z ∷ zs) axis ends x around h at_axis at_ends at_x =
     looked_up_outside high n axes total faces (λ rest. along p e (λ y. numbers (y ∷ rest)) z) zs axis ends x
     (later_around p t axes total around) h.2 at_axis at_ends at_x
+
+-- the same of an array's shape, whichever faces it has
+pub look_outside : (o : Option (List Ends)) (faces : List Ends) (high : Bool) (n : ℕ) (axes total : List Interval) (numbers : List ℤ → ℤ) (c : List ℤ) (axis : Interval) (ends : Ends) (x : ℤ) → AreAround axes total → IsIn (slab_axes high n axes total) c → o ≡ Some faces → slice_get axes n ≡ Some axis → slice_get faces n ≡ Some ends → slice_get c n ≡ Some x → looked_up axes o numbers c ≡ updated (facing ends axis x) axis (λ y. looked_up axes o numbers (slice_set c n y)) x
+look_outside o faces high n axes total numbers c axis ends x around slab is at_axis at_ends at_x =
+    rw is (looked_up_outside high n axes total faces numbers c axis ends x around slab at_axis at_ends at_x)
+
+pub look_inside : (o : Option (List Ends)) (axes : List Interval) (numbers : List ℤ → ℤ) (c : List ℤ) → IsIn axes c → looked_up axes o numbers c ≡ numbers c
+look_inside None axes numbers c h = refl
+look_inside (Some faces) axes numbers c h = looked_up_inside axes faces numbers c h

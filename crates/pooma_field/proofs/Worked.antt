@@ -1,12 +1,14 @@
 -- The definitions on worked cases, by computing.
-use Rattle.std.specs.Prelude.{◌≡◌, ℤ, pos, negsuc, neg_ℤ, true, false, Some, List, [], ◌∷◌, map, refl}
+use Rattle.std.specs.Prelude.{◌≡◌, ℤ, pos, negsuc, neg_ℤ, true, false, Some, List, [], ◌∷◌, map, refl, if◌then◌else◌}
 use Rattle.pooma_domain.specs.Cells.{Interval, interval, cells_of}
 use Rattle.pooma_field.specs.declared.updaters.Updater.{Updater}
 use Rattle.pooma_field.specs.declared.updaters.Updater.TheVariants.{Constant, Periodic, Reflect, Antireflect, Extrapolate}
 use Rattle.pooma_field.specs.Faces.{by_axis}
 use Rattle.pooma_field.specs.Look.{look}
 use Rattle.pooma_field.specs.Numbered.{place_in, number_at, with_changes}
+use Rattle.pooma_field.specs.declared.shapes.Slab.{Slab}
 use Rattle.pooma_field.specs.Shapes.{Shaped, slab_of}
+use Rattle.pooma_field.specs.Slabs.{has_cell, slabs_of, with_slabs}
 use Rattle.pooma_field.specs.Sources.{source_of}
 
 -- a field of these boxes and updaters
@@ -76,3 +78,26 @@ later_changes_stay : with_changes (record { area = interval (pos 1) (pos 3) ∷ 
     ≡ record { area = interval (pos 1) (pos 3) ∷ []; numbers = pos 0 ∷ pos 7 ∷ pos 0 ∷ [] }
 unfolding place_in
 later_changes_stay = refl
+
+-- what is seen at all cells of the field once its slabs were set in their order, where its other cells had the number 9
+abbrev filled : Shaped → List ℤ → List ℤ
+filled shape numbers =
+    map (with_slabs shape (λ c. if has_cell shape.physical c then number_at (record { area = shape.physical; numbers = numbers }) c else pos 9) (slabs_of shape)) (cells_of shape.total)
+
+slabs_in_their_order : map (λ (slab : Slab). slab.target) (slabs_of square)
+    ≡ (interval (negsuc 0) (negsuc 0) ∷ interval (pos 0) (pos 1) ∷ [])
+    ∷ (interval (pos 2) (pos 2) ∷ interval (pos 0) (pos 1) ∷ [])
+    ∷ (interval (negsuc 0) (pos 2) ∷ interval (negsuc 0) (negsuc 0) ∷ [])
+    ∷ (interval (negsuc 0) (pos 2) ∷ interval (pos 2) (pos 2) ∷ [])
+    ∷ []
+slabs_in_their_order = refl
+
+-- a face without cells has no slab
+no_slab_where_nothing_is_beside : map (λ (slab : Slab). slab.high) (slabs_of (field_of (interval (pos 0) (pos 1) ∷ []) (interval (pos 0) (pos 2) ∷ []) (Periodic ∷ Reflect ∷ [])))
+    ≡ true ∷ []
+no_slab_where_nothing_is_beside = refl
+
+setting_slabs_is_looking_up : filled square (neg_ℤ (pos 9223372036854775808) ∷ pos 2 ∷ pos 3 ∷ pos 4 ∷ [])
+    ≡ seen square (neg_ℤ (pos 9223372036854775808) ∷ pos 2 ∷ pos 3 ∷ pos 4 ∷ [])
+unfolding place_in
+setting_slabs_is_looking_up = refl

@@ -4,6 +4,7 @@ pub mod Numbered
 pub mod Padding
 pub mod Shapes
 pub mod ShapeOf
+pub mod Slabs
 pub mod Sources
 pub mod Updaters
 pub mod Worlds

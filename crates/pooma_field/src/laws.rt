@@ -1,10 +1,12 @@
-ghost use Rattle.std.specs.Prelude.{◌≡◌, ◌≢◌, ℕ, ◌<◌, ℤ, pos, Some, None, option_map, List, length, slice_get, slice_set, Contains};
+ghost use Rattle.std.specs.Prelude.{◌≡◌, ◌≢◌, ℕ, ◌<◌, ◌≤◌, ℤ, pos, Some, None, IsSome, option_map, List, length, map, slice_get, slice_set, All, AllPairs, Contains};
 ghost use Rattle.pooma_domain.specs.Cells.{Interval, cells_of, IsIn};
 ghost use Rattle.pooma_field.specs.declared.faces.Ends.{Ends};
 ghost use Rattle.pooma_field.specs.Faces.{facing};
 ghost use Rattle.pooma_field.specs.Look.{look};
 ghost use Rattle.pooma_field.specs.Numbered.{Numbered, Change, place_in, number_at, with_number, with_changes, IsFull};
-ghost use Rattle.pooma_field.specs.Shapes.{Shaped, IsInSlabs, IsShape};
+ghost use Rattle.pooma_field.specs.Shapes.{Shaped, IsInSlabs, IsShape, inside_from};
+ghost use Rattle.pooma_field.specs.Slabs.{cell_sources, cell_value, slabs_of, with_slabs};
+ghost use Rattle.pooma_field.specs.declared.shapes.Slab.{Slab};
 ghost use Rattle.pooma_field.specs.Sources.{source_number, source_of};
 ghost use Rattle.pooma_field.specs.Updaters.{updated};
 ghost use Rattle.pooma_field.specs.Worlds.{World, array_of, number_of, changed, zeros, opening_world};
@@ -50,6 +52,34 @@ pub fn looking_up()
         → (n : ℕ) × IsInSlabs shape n c }
     ensures one_axis { (shape : Shaped) (c : List ℤ) (n m : ℕ) → IsShape shape → IsInSlabs shape n c → IsInSlabs shape m c → n ≡ m }
 {}
+
+/// The slabs of a field, as a law for proofs. Setting them in their order, each cell to what its updater makes of the numbers
+/// then at its sources, gives each cell of the field what looking it up gives. Each cell beside the physical domain lies in a
+/// slab, and looking it up takes what its sources are looked up to have. These are inside on the slab's axis and on the
+/// greater ones, so that they are physical or lie in slabs of lower axes, which come earlier.
+pub fn slabs_in_order()
+    ensures set { (shape : Shaped) (numbers : List ℤ → ℤ) (c : List ℤ) → IsShape shape → IsSome shape.faces → IsIn shape.total c
+        → with_slabs shape numbers (slabs_of shape) c ≡ look shape numbers c }
+    ensures value { (shape : Shaped) (numbers : List ℤ → ℤ) (slab : Slab) (c : List ℤ) → IsShape shape → Contains (slabs_of shape) slab
+        → IsIn slab.target c → look shape numbers c ≡ cell_value shape slab c (map (look shape numbers) (cell_sources shape slab c)) }
+    ensures sources { (shape : Shaped) (slab : Slab) (c : List ℤ) → IsShape shape → Contains (slabs_of shape) slab → IsIn slab.target c
+        → All (IsIn (inside_from slab.axis shape)) (cell_sources shape slab c) }
+    ensures total_sources { (shape : Shaped) (slab : Slab) (c : List ℤ) → IsShape shape → Contains (slabs_of shape) slab
+        → IsIn slab.target c → All (IsIn shape.total) (cell_sources shape slab c) }
+    ensures first_source { (shape : Shaped) (slab : Slab) (c : List ℤ) → IsShape shape → Contains (slabs_of shape) slab
+        → IsIn slab.target c → source_of shape slab.axis c ≡ slice_get (cell_sources shape slab c) 0 }
+    ensures goes_by { (shape : Shaped) (slab : Slab) (c : List ℤ) → IsShape shape → Contains (slabs_of shape) slab → IsIn slab.target c
+        → IsInSlabs shape slab.axis c }
+    ensures external { (shape : Shaped) (slab : Slab) (c : List ℤ) → IsShape shape → Contains (slabs_of shape) slab → IsIn slab.target c
+        → IsIn shape.total c × ¬ (IsIn shape.physical c) }
+    ensures some { (shape : Shaped) (c : List ℤ) → IsShape shape → IsSome shape.faces → IsIn shape.total c → ¬ (IsIn shape.physical c)
+        → (slab : Slab) × Contains (slabs_of shape) slab × IsIn slab.target c }
+    ensures earlier { (shape : Shaped) (n : ℕ) (slab : Slab) (c : List ℤ) → IsShape shape → Contains (slabs_of shape) slab
+        → IsIn slab.target c → IsIn (inside_from n shape) c → slab.axis < n }
+    ensures order { (shape : Shaped) → AllPairs (λ one later. one.axis ≤ later.axis) (slabs_of shape) }
+{
+    order_of_cells();
+}
 
 /// Worlds, as a law for proofs: what becomes of each array where one is changed, and that all numbers are 0 at first.
 pub fn worlds_change()

@@ -1,37 +1,24 @@
-use Rattle.std.proofs.Common.{refl, ap, ⊎_elim, ◌≡◌, Some, None, Option, List, ℤ, ℕ, Bool, true, false, slice_get, slice_set}
-use Rattle.pooma_domain.specs.Cells.{Interval, IsIn}
+use Rattle.std.proofs.Common.{ap, ⊎_elim, ◌≡◌, Option, List, ℕ, Bool, true, false}
+use Rattle.pooma_domain.specs.Cells.{IsIn}
 use Rattle.pooma_field.specs.declared.faces.Ends.{Ends}
-use Rattle.pooma_field.specs.Faces.{facing}
 use Rattle.pooma_field.specs.Look.{looked_up}
-use Rattle.pooma_field.specs.Shapes.{Shaped, IsShape, slab_of}
-use Rattle.pooma_field.specs.Updaters.{updated}
-use Rattle.pooma_field.proofs.Lookups.{looked_up_inside, looked_up_outside}
-use Rattle.pooma_field.proofs.SlabCells.{AreAround, GoesBy, one_slab, some_slab}
-use Rattle.pooma_field.proofs.SourceCells.{source_cell_is}
+use Rattle.pooma_field.specs.Shapes.{slab_of}
+use Rattle.pooma_field.proofs.Lookups.{look_inside, look_outside}
+use Rattle.pooma_field.proofs.SlabCells.{GoesBy, one_slab, some_slab}
+use Rattle.pooma_field.proofs.SourceCells.{around_of, source_cell_is}
 use Rattle.pooma_field.proofs.laws.looking_up.Goals as goal
 
 pub returns-clause-plain : goal.returns-clause-plain
 returns-clause-plain c shape numbers cell none = ap (λ (faces : Option (List Ends)). looked_up shape.physical faces numbers cell) none
 
-inside_alone : (faces : Option (List Ends)) (axes : List Interval) (numbers : List ℤ → ℤ) (cell : List ℤ) → IsIn axes cell → looked_up axes faces numbers cell ≡ numbers cell
-inside_alone None axes numbers cell h = refl
-inside_alone (Some faces) axes numbers cell h = looked_up_inside axes faces numbers cell h
-
 pub returns-clause-physical : goal.returns-clause-physical
-returns-clause-physical c shape numbers cell inside = inside_alone shape.faces shape.physical numbers cell inside
-
-around : (shape : Shaped) → IsShape shape → AreAround shape.physical shape.total
-around shape valid = record { same = valid.same_dims; each = valid.around }
-
-outside_by : (o : Option (List Ends)) (faces : List Ends) (high : Bool) (shape : Shaped) (numbers : List ℤ → ℤ) (cell : List ℤ) (n : ℕ) (axis : Interval) (ends : Ends) (x : ℤ) → IsShape shape → IsIn (slab_of high n shape) cell → o ≡ Some faces → slice_get shape.physical n ≡ Some axis → slice_get faces n ≡ Some ends → slice_get cell n ≡ Some x → looked_up shape.physical o numbers cell ≡ updated (facing ends axis x) axis (λ y. looked_up shape.physical o numbers (slice_set cell n y)) x
-outside_by o faces high shape numbers cell n axis ends x valid slab is at_axis at_ends at_x =
-    rw is (looked_up_outside high n shape.physical shape.total faces numbers cell axis ends x (around shape valid) slab at_axis at_ends at_x)
+returns-clause-physical c shape numbers cell inside = look_inside shape.faces shape.physical numbers cell inside
 
 pub returns-clause-outside : goal.returns-clause-outside
 returns-clause-outside c shape numbers cell n faces axis ends x valid slabs is at_axis at_ends at_x =
     ⊎_elim
-    (λ low. outside_by shape.faces faces false shape numbers cell n axis ends x valid low is at_axis at_ends at_x)
-    (λ high. outside_by shape.faces faces true shape numbers cell n axis ends x valid high is at_axis at_ends at_x)
+    (λ low. look_outside shape.faces faces false n shape.physical shape.total numbers cell axis ends x (around_of shape valid) low is at_axis at_ends at_x)
+    (λ high. look_outside shape.faces faces true n shape.physical shape.total numbers cell axis ends x (around_of shape valid) high is at_axis at_ends at_x)
     slabs.1
 
 pub returns-clause-source : goal.returns-clause-source
