@@ -1,10 +1,11 @@
 -- What the expression of a body has of the body.
-use Rattle.std.proofs.Common.{◌≡◌, ◌↔◌, ℕ, ◌+◌, max, ℤ, pos, Bool, true, false, Ok, refl, sym, ap, ap₂, subst, ◌∙◌, List, [], ◌∷◌, ◌++◌}
+use Rattle.std.proofs.Common.{◌≡◌, ◌↔◌, ◌⊎◌, inl, inr, ℕ, ◌+◌, ◌<◌, max, ℤ, pos, Bool, true, false, Ok, refl, sym, ap, ap₂, subst, ◌∙◌, List, [], ◌∷◌, ◌++◌, arith}
 use Rattle.std.specs.Prelude.{neg_ℤ, unsigned_abs, if◌then◌else◌, map, All, IsTrue}
 use Rattle.std.specs.Ordering.{int_eq}
 use Rattle.std.proofs.lemmas.List.{map-append}
 use Rattle.std.proofs.lemmas.List.Elements.{All-nil, All-cons, All-head, All-tail, All-append, All-map, All-weaker}
 use Rattle.pooma_domain.specs.Cells.{IsIn}
+use Rattle.pooma_domain.specs.Operations.{reaches}
 use Rattle.pooma_view.specs.Slots.{cell_named}
 use Rattle.pooma_view.specs.Views.{Viewed}
 use Rattle.pooma_expr.specs.declared.tree.Op.{Op}
@@ -76,6 +77,22 @@ module _ (P : List ℤ → Type 0) where
   abbrev pub Tells : Bool → Body → Type 0
   Tells r b = IsTrue r ↔ All P (offsets_of b)
 
+  pub one_told : (x a a' : Body) (r : Bool) → (x ≡ Neg a) ⊎ (x ≡ Abs a) → a' ≡ a → Tells r a' → Tells r x
+  one_told x a a' r (inl e) is h = (
+    λ t. of_same (Neg a) x (sym e) (of_neg a (of_same a' a is (h.0 t))),
+    λ all. h.1 (of_same a a' (sym is) (in_neg a (of_same x (Neg a) e all))),
+  )
+  one_told x a a' r (inr e) is h = (
+    λ t. of_same (Abs a) x (sym e) (of_abs a (of_same a' a is (h.0 t))),
+    λ all. h.1 (of_same a a' (sym is) (in_abs a (of_same x (Abs a) e all))),
+  )
+
+  pub at_told : (x : Body) (o : List ℤ) (r : Bool) → x ≡ At o → (IsTrue r ↔ P o) → Tells r x
+  at_told x o r e h = (
+    λ t. of_same (At o) x (sym e) (of_at o (h.0 t)),
+    λ all. h.1 (at_offset o (of_same x (At o) e all)),
+  )
+
   pub bin_passed : (o : Op) (x a b a' b' : Body) (r q : Bool) → x ≡ Bin o a b → a' ≡ a → b' ≡ b → Tells r a' → r ≡ true → Tells q b' → Tells q x
   bin_passed o x a b a' b' r q e ea eb ha t hb = (
     λ s. of_same (Bin o a b) x (sym e) (of_bin o a b (of_same a' a ea (ha.0 t)) (of_same b' b eb (hb.0 s))),
@@ -107,17 +124,60 @@ module _ (P : List ℤ → Type 0) where
   )
 
 -- how deep a form is
-pub depth-Neg : (x a : Body) → x ≡ Neg a → body_depth x ≡ body_depth a + 1
+depth-Neg : (x a : Body) → x ≡ Neg a → body_depth x ≡ body_depth a + 1
 depth-Neg x a e = ap body_depth e ∙ fold-Neg ℕ depth_by a
 
-pub depth-Abs : (x a : Body) → x ≡ Abs a → body_depth x ≡ body_depth a + 1
+depth-Abs : (x a : Body) → x ≡ Abs a → body_depth x ≡ body_depth a + 1
 depth-Abs x a e = ap body_depth e ∙ fold-Abs ℕ depth_by a
 
-pub depth-Bin : (x : Body) (o : Op) (a b : Body) → x ≡ Bin o a b → body_depth x ≡ max (body_depth a) (body_depth b) + 1
+depth-Bin : (x : Body) (o : Op) (a b : Body) → x ≡ Bin o a b → body_depth x ≡ max (body_depth a) (body_depth b) + 1
 depth-Bin x o a b e = ap body_depth e ∙ fold-Bin ℕ depth_by o a b
 
-pub depth-Where : (x c a b : Body) → x ≡ Where c a b → body_depth x ≡ max (body_depth c) (max (body_depth a) (body_depth b)) + 1
+depth-Where : (x c a b : Body) → x ≡ Where c a b → body_depth x ≡ max (body_depth c) (max (body_depth a) (body_depth b)) + 1
 depth-Where x c a b e = ap body_depth e ∙ fold-Where ℕ depth_by c a b
+
+-- one of the bodies that a body is made of: it is less deep, and has no further offsets
+pub record IsOperand (a x : Body) : Type 0 where
+  pub depth : body_depth a < body_depth x
+  pub reach : (lower upper : List ℤ) → All (IsIn (reaches lower upper)) (offsets_of x) → All (IsIn (reaches lower upper)) (offsets_of a)
+
+operand : (a' a x : Body) → a' ≡ a → body_depth a < body_depth x → ((P : List ℤ → Type 0) → All P (offsets_of x) → All P (offsets_of a)) → IsOperand a' x
+operand a' a x e d h = record {
+  depth = omega (arith, d, ap body_depth e);
+  reach = λ lower upper all. of_same (IsIn (reaches lower upper)) a a' (sym e) (h (IsIn (reaches lower upper)) all);
+}
+
+pub operand_of_neg : (x a a' : Body) → x ≡ Neg a → a' ≡ a → IsOperand a' x
+operand_of_neg x a a' e is =
+    operand a' a x is (omega (arith, depth-Neg x a e)) (λ P h. in_neg P a (of_same P x (Neg a) e h))
+
+pub operand_of_abs : (x a a' : Body) → x ≡ Abs a → a' ≡ a → IsOperand a' x
+operand_of_abs x a a' e is =
+    operand a' a x is (omega (arith, depth-Abs x a e)) (λ P h. in_abs P a (of_same P x (Abs a) e h))
+
+pub operand_of_one : (x a a' : Body) → (x ≡ Neg a) ⊎ (x ≡ Abs a) → a' ≡ a → IsOperand a' x
+operand_of_one x a a' (inl e) is = operand_of_neg x a a' e is
+operand_of_one x a a' (inr e) is = operand_of_abs x a a' e is
+
+pub first_of_bin : (x : Body) (o : Op) (a b a' : Body) → x ≡ Bin o a b → a' ≡ a → IsOperand a' x
+first_of_bin x o a b a' e is =
+    operand a' a x is (omega (arith, depth-Bin x o a b e)) (λ P h. (in_bin P o a b (of_same P x (Bin o a b) e h)).0)
+
+pub second_of_bin : (x : Body) (o : Op) (a b b' : Body) → x ≡ Bin o a b → b' ≡ b → IsOperand b' x
+second_of_bin x o a b b' e is =
+    operand b' b x is (omega (arith, depth-Bin x o a b e)) (λ P h. (in_bin P o a b (of_same P x (Bin o a b) e h)).1)
+
+pub test_of_where : (x c a b c' : Body) → x ≡ Where c a b → c' ≡ c → IsOperand c' x
+test_of_where x c a b c' e is =
+    operand c' c x is (omega (arith, depth-Where x c a b e)) (λ P h. (in_where P c a b (of_same P x (Where c a b) e h)).0)
+
+pub first_of_where : (x c a b a' : Body) → x ≡ Where c a b → a' ≡ a → IsOperand a' x
+first_of_where x c a b a' e is =
+    operand a' a x is (omega (arith, depth-Where x c a b e)) (λ P h. (in_where P c a b (of_same P x (Where c a b) e h)).1)
+
+pub second_of_where : (x c a b b' : Body) → x ≡ Where c a b → b' ≡ b → IsOperand b' x
+second_of_where x c a b b' e is =
+    operand b' b x is (omega (arith, depth-Where x c a b e)) (λ P h. (in_where P c a b (of_same P x (Where c a b) e h)).2)
 
 module _ (view : List ℤ → Viewed) (scalars : List ℤ) (has : Contents) (p : List ℤ) (at : List ℤ → ℤ) where
   -- the view that stands for an offset has there what the body finds at it

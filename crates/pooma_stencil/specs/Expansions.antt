@@ -2,6 +2,7 @@
 use Rattle.std.specs.Prelude.{◌≡◌, ℤ, List, length, All}
 use Rattle.pooma_domain.specs.Cells.{Interval, IsBox, IsIn, IsOrdered}
 use Rattle.pooma_domain.specs.Operations.{moved, shifted}
+use Rattle.pooma_view.specs.Overlap.{IsOverlap}
 use Rattle.pooma_view.specs.Restricted.{restricted}
 use Rattle.pooma_view.specs.Slots.{positions_of, cell_named}
 use Rattle.pooma_view.specs.Views.{Viewed}
@@ -65,3 +66,7 @@ pub record IsPartOf (whole : Viewed) (axes : List Interval) (v : Viewed) : Type 
 pub record IsReadFor (s : Stenciled) (v : Viewed) (o : List ℤ) : Type 0 where
   pub part : IsPartOf v (positions_on s v) (view_read s v o)
   pub cells : (p : List ℤ) → IsIn (positions_on s v) p → cell_named (view_read s v o).slots p ≡ cell_read s v p o
+
+-- the view that is read for an offset does not overlap another one
+abbrev pub IsReadApart : Stenciled → Viewed → Viewed → List ℤ → Type 0
+IsReadApart s v target o = IsOverlap (view_read s v o) target → ⊥

@@ -1,5 +1,5 @@
 //! Bodies of stencils as trees.
-ghost use Rattle.std.specs.Prelude.{◌≤◌, ◌↔◌, All, IsTrue};
+ghost use Rattle.std.specs.Prelude.{◌≡◌, ◌≤◌, ◌↔◌, length, min, All, IsTrue};
 ghost use Rattle.pooma_domain.specs.Cells.{IsIn};
 ghost use Rattle.pooma_domain.specs.Operations.{reaches};
 ghost use Rattle.pooma_stencil.specs.Bodies.{body_depth, offsets_of};
@@ -62,6 +62,27 @@ impl Body {
                 c.get().is_within(lower, upper)
                     && a.get().is_within(lower, upper)
                     && b.get().is_within(lower, upper)
+            }
+        }
+    }
+
+    /// How many offsets the body has, each as often as it stands there, or `most` where it has more.
+    pub fn offsets_up_to(&self, most: u32) -> u32
+        ensures value { result ≡ min (length (offsets_of self.now)) most }
+        ensures few { result ≤ most }
+    {
+        match self {
+            Body::Literal(_) => 0,
+            Body::At(_) => most.min(1),
+            Body::Neg(a) | Body::Abs(a) => a.get().offsets_up_to(most),
+            Body::Bin(_, a, b) => {
+                let first = a.get().offsets_up_to(most);
+                first + b.get().offsets_up_to(most - first)
+            }
+            Body::Where(c, a, b) => {
+                let first = c.get().offsets_up_to(most);
+                let second = a.get().offsets_up_to(most - first);
+                first + second + b.get().offsets_up_to(most - first - second)
             }
         }
     }

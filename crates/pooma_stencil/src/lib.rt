@@ -3,7 +3,9 @@
 
 mod body;
 mod extents;
+mod law;
 mod stencil;
 
 pub use body::Body;
+pub use law::{forms_of_expansions, values_of_expansions};
 pub use stencil::Stencil;

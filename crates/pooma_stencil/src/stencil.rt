@@ -1,12 +1,13 @@
 //! Stencils, and their expansions on views.
-ghost use Rattle.std.specs.Prelude.{◌≡◌, ◌≤◌, ◌↔◌, ℕ, ℤ, List, length, map, All, IsSome, IfSome, IfOk};
+ghost use Rattle.std.specs.Prelude.{◌≡◌, ◌≤◌, ◌↔◌, ℕ, ℤ, List, length, map, All, IsTrue, IsSome, IfSome, IfOk};
 ghost use Rattle.pooma_domain.specs.Cells.{IsBox, IsIn, IsOrdered};
 ghost use Rattle.pooma_domain.specs.Operations.{reaches};
+ghost use Rattle.pooma_view.specs.Overlap.{IsOverlap};
 ghost use Rattle.pooma_view.specs.Slots.{positions_of};
 ghost use Rattle.pooma_expr.specs.Trees.{axes_needed, depth_of, scalars_needed, views_of};
 ghost use Rattle.pooma_expr.specs.Values.{value};
 ghost use Rattle.pooma_stencil.specs.Bodies.{body_depth, offsets_of};
-ghost use Rattle.pooma_stencil.specs.Expansions.{HasResult, IsReadFor, expanded, positions_on, view_read};
+ghost use Rattle.pooma_stencil.specs.Expansions.{HasResult, IsReadApart, IsReadFor, expanded, positions_on, view_read};
 
 use crate::body::Body;
 use crate::extents::{beginning, shrink};
@@ -65,6 +66,27 @@ impl Stencil {
         self.lower.dims()
     }
 
+    /// How far the body may read below a position on each axis.
+    pub fn lower(&self) -> &Cell
+        ensures { result.now ≡ self.now.lower }
+    {
+        &self.lower
+    }
+
+    /// How far the body may read above a position on each axis.
+    pub fn upper(&self) -> &Cell
+        ensures { result.now ≡ self.now.upper }
+    {
+        &self.upper
+    }
+
+    /// What is made of the numbers about a position.
+    pub fn body(&self) -> &Body
+        ensures { result.now ≡ self.now.body }
+    {
+        &self.body
+    }
+
     /// The positions of the result on a view with these positions: on each axis the extents fewer. None where there are none.
     pub fn result(&self, positions: &BoxN) -> Option<BoxN>
         requires { length self.now.lower ≡ length positions.now }
@@ -99,6 +121,34 @@ impl Stencil {
         Ok(expr)
     }
 
+    /// Whether no view that the expression on a view reads overlaps this other one, offset by offset and without the expression.
+    /// What `expand` asks of the view is asked here.
+    pub fn reads_apart(&self, view: &View, target: &View) -> bool
+        requires positions { IsBox (positions_of view.now.slots) }
+        requires dims { length self.now.lower ≡ length (positions_of view.now.slots) }
+        requires room { All IsOrdered (positions_on self.now view.now) }
+        requires target { IsBox (positions_of target.now.slots) }
+        ensures { IsTrue result ↔ All (λ read. IsOverlap read target.now → ⊥) (views_of (expansion self.now view.now)) }
+    {
+        let Some(positions) = self.result(&view.positions()) else {
+            unreachable!();
+        };
+        body_reads_apart(&self.body, self, view, &positions, target)
+    }
+
+    // Whether the view that is read for this offset does not overlap the target.
+    fn is_apart(&self, view: &View, positions: &BoxN, offset: &Cell, target: &View) -> bool
+        requires fits { HasResult self.now view.now }
+        requires positions { positions.now ≡ positions_on self.now view.now }
+        requires within { IsIn (reaches self.now.lower self.now.upper) offset.now }
+        requires target { IsBox (positions_of target.now.slots) }
+        ensures { IsTrue result ↔ IsReadApart self.now view.now target.now offset.now }
+    {
+        // For what it promises: the positions make a box.
+        let _dims = positions.dims();
+        !self.read(view, positions, offset).overlaps(target)
+    }
+
     // The view that is read for this offset.
     fn read(&self, view: &View, positions: &BoxN, offset: &Cell) -> View
         requires fits { HasResult self.now view.now }
@@ -110,6 +160,34 @@ impl Stencil {
         boxes_within_boxes();
         let begin = beginning(&self.lower, &self.upper, offset);
         view.restrict(&positions.shift(&begin))
+    }
+}
+
+// Whether no view that is read for a part of a stencil's body overlaps the target, where the result has these positions.
+fn body_reads_apart(
+    body: &Body,
+    stencil: &Stencil,
+    view: &View,
+    positions: &BoxN,
+    target: &View,
+) -> bool
+    requires fits { HasResult stencil.now view.now }
+    requires positions { positions.now ≡ positions_on stencil.now view.now }
+    requires within { All (IsIn (reaches stencil.now.lower stencil.now.upper)) (offsets_of body.now) }
+    requires target { IsBox (positions_of target.now.slots) }
+    ensures { IsTrue result ↔ All (IsReadApart stencil.now view.now target.now) (offsets_of body.now) }
+{
+    match body {
+        Body::Literal(_) => true,
+        Body::At(offset) => stencil.is_apart(view, positions, offset, target),
+        Body::Neg(a) | Body::Abs(a) => body_reads_apart(a.get(), stencil, view, positions, target),
+        Body::Bin(_, a, b) => body_reads_apart(a.get(), stencil, view, positions, target)
+            && body_reads_apart(b.get(), stencil, view, positions, target),
+        Body::Where(c, a, b) => {
+            body_reads_apart(c.get(), stencil, view, positions, target)
+                && body_reads_apart(a.get(), stencil, view, positions, target)
+                && body_reads_apart(b.get(), stencil, view, positions, target)
+        }
     }
 }
 
