@@ -1,7 +1,7 @@
 -- What an assignment gives, and what a reduction makes, in the terms of what was found.
-use Rattle.std.proofs.Common.{◌≡◌, ℕ, ◌<◌, ℤ, pos, Bool, true, false, Option, None, Some, Result, Ok, Err, List, [], ◌∷◌, map, refl, sym, ap, ◌∙◌, subst, if◌then◌else◌}
+use Rattle.std.proofs.Common.{◌≡◌, ℕ, ℤ, pos, Bool, true, false, Option, None, Some, Ok, Err, List, [], map, refl, sym, ap, ◌∙◌, subst, if◌then◌else◌}
 use Rattle.std.specs.Prelude.{slice_set}
-use Rattle.std.specs.List.{cons_option, filter_map}
+use Rattle.std.specs.List.{cons_option}
 use Rattle.std.specs.Ordering.{int_eq}
 use Rattle.std.proofs.lemmas.Bool.Decides.{Decides-int_eq}
 use Rattle.pooma_domain.specs.Cells.{Interval, cells_of}
@@ -14,14 +14,14 @@ use Rattle.pooma_expr.specs.declared.tree.Expr.{Expr}
 use Rattle.pooma_expr.specs.declared.reduction.Reduction.{Reduction}
 use Rattle.pooma_expr.specs.Reductions.{result_over}
 use Rattle.pooma_expr.specs.Values.{Checked}
-use Rattle.pooma_model.specs.Assigning.{Becomes, Effect, Faults, Fault, Given, Number, Nothing, Fails, assigned, assignment_changes, assignment_fault, change_of, fault_of, fault_or, first_of, given_at, given_by, whole_value, where_mask}
+use Rattle.pooma_model.specs.Assigning.{Becomes, Faults, Fault, Nothing, Fails, assigned, assignment_changes, assignment_fault, change_of, fault_of, fault_or, first_of, given_at, given_by, whole_value, where_mask}
 use Rattle.pooma_model.specs.Declarations.{Declared, value_in}
 use Rattle.pooma_model.specs.Fit.{IsValueOver}
 use Rattle.pooma_model.specs.Reducing.{fault_before, number_in, reduced, scalar_given, values_over}
 use Rattle.pooma_plain.specs.declared.array.Placed.{Placed}
 use Rattle.pooma_plain.specs.Plain.{Seen, CanEvaluateOver, IsCodable, IsCodeOf, IsCodeOfMask, given_seen, placed_in, placed_of, value_fault, with_placed, without_scalars}
 use Rattle.pooma_plain.proofs.Walks.{first_same, kept_same}
-use Rattle.pooma_plain.proofs.WholeValues.{can_over, codable, mask_fits, value_fits}
+use Rattle.pooma_plain.proofs.WholeValues.{can_over, codable, mask_fits}
 use Rattle.pooma_plain.proofs.WorldsKept.{changes_by_places}
 
 -- without a mask the value is given

@@ -2,7 +2,7 @@
 use Rattle.std.proofs.Common.{refl, sym, ap, ◌∙◌, subst, arith, ⊎_elim, get_or}
 use Rattle.std.proofs.lemmas.Int.{ints}
 use Rattle.std.proofs.lemmas.List.{append-nil, take_all, drop_all}
-use Rattle.std.specs.Prelude.{◌≡◌, ◌⊎◌, ℕ, zero, suc, ◌<◌, ◌≤◌, ℤ, pos, ◌+ℤ◌, ◌-ℤ◌, ◌≤ℤ◌, Bool, true, false, Option, None, Some, List, [], ◌∷◌, ◌++◌, length, slice_get, slice_set, take, drop}
+use Rattle.std.specs.Prelude.{◌≡◌, ℕ, zero, suc, ◌<◌, ◌≤◌, ℤ, ◌≤ℤ◌, Bool, true, false, Option, None, Some, List, [], ◌∷◌, ◌++◌, length, slice_get, slice_set, take, drop}
 use Rattle.pooma_domain.specs.Cells.{Interval, IsIn}
 use Rattle.std.specs.Option.{option_map_or}
 use Rattle.std.proofs.lemmas.Option.{slice_get-get_or}
@@ -55,7 +55,7 @@ in_with_coordinate (a ∷ axes) zero axis y (x ∷ xs) at low high inside =
 in_with_coordinate (a ∷ axes) (suc n) axis y (x ∷ xs) at low high inside =
     (inside.0, inside.1, in_with_coordinate axes n axis y xs at low high inside.2)
 
-pub length_in : (axes : List Interval) (c : List ℤ) → IsIn axes c → length c ≡ length axes
+length_in : (axes : List Interval) (c : List ℤ) → IsIn axes c → length c ≡ length axes
 length_in [] [] inside = refl
 length_in [] (x ∷ c) inside = absurd inside
 length_in (axis ∷ axes) [] inside = absurd inside

@@ -1,7 +1,6 @@
 mod GivenNumbers
 mod InsideCells
 mod LookedUp
-mod RowTexts
 mod SerialSteps
 mod Walks
 mod WholeValues

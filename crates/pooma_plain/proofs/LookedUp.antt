@@ -1,5 +1,5 @@
 -- The value of a cell beside the physical domain, by its updater.
-use Rattle.std.proofs.Common.{refl, sym, ap, ◌∙◌, subst, set}
+use Rattle.std.proofs.Common.{sym, ap, ◌∙◌}
 use Rattle.std.proofs.lemmas.List.{set-set}
 use Rattle.std.proofs.lemmas.Option.{get_or_from_slice_get}
 use Rattle.std.specs.Prelude.{◌≡◌, ℕ, ℤ, pos, Option, Some, option_map, List, slice_get, slice_set}

@@ -1,10 +1,11 @@
 -- Going along a list: the first that is found, and those that are kept.
-use Rattle.std.proofs.Common.{◌≡◌, ℕ, zero, suc, ◌+◌, ◌<◌, ◌≤◌, Option, None, Some, List, [], ◌∷◌, ◌++◌, length, take, get_or, refl, sym, ap, ◌∙◌, arith, subst, map, add-one}
+use Rattle.std.proofs.Common.{◌≡◌, ℕ, zero, suc, ◌+◌, Option, None, Some, List, [], ◌∷◌, ◌++◌, take, refl, ap, ◌∙◌, map, add-one}
 use Rattle.std.specs.List.{filter_map, slice_get, cons_option}
-use Rattle.std.proofs.lemmas.List.{append-nil, map-append, take_more}
+use Rattle.std.proofs.lemmas.List.{append-nil, map-append}
 use Rattle.std.proofs.lemmas.List.Elements.{filter_map-append}
-use Rattle.std.proofs.lemmas.Option.{same_Some, slice_get_within, get_or_from_slice_get}
+use Rattle.std.proofs.lemmas.Option.{same_Some}
 use Rattle.pooma_model.specs.Assigning.{first_of, found_or}
+use Rattle.pooma_print.proofs.Lists.{taken_more}
 
 -- where nothing is found in both, nothing is found in either
 neither : {B : Type 0} (o later : Option B) → found_or o later ≡ None → (o ≡ None) × (later ≡ None)
@@ -29,11 +30,6 @@ none_more f (z ∷ xs) (suc k) x none at is =
 
 pub none_so_far : {A B : Type 0} (f : A → Option B) (xs : List A) (k : ℕ) (x : A) → first_of f (take k xs) ≡ None → slice_get xs k ≡ Some x → f x ≡ None → first_of f (take (k + 1) xs) ≡ None
 none_so_far f xs k x none at is = ap (λ n. first_of f (take n xs)) (add-one k) ∙ none_more f xs k x none at is
-
--- one element more of a list
-pub taken_more : {A : Type 0} (xs : List A) (k : ℕ) (x : A) → slice_get xs k ≡ Some x → take (k + 1) xs ≡ take k xs ++ x ∷ []
-taken_more xs k x at =
-    take_more xs k x (slice_get_within xs k x at) ∙ ap (λ e. take k xs ++ e ∷ []) (get_or_from_slice_get xs k x x at)
 
 -- what is kept of one element more
 pub kept_more : {A B : Type 0} (f : A → Option B) (xs : List A) (k : ℕ) (x : A) (y : B) → slice_get xs k ≡ Some x → f x ≡ Some y → filter_map f (take (k + 1) xs) ≡ filter_map f (take k xs) ++ y ∷ []

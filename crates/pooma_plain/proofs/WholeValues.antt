@@ -1,6 +1,5 @@
 -- What is known of an assignment's value and mask, where the value with the mask and the target in it is known.
-use Rattle.std.proofs.Common.{◌≡◌, ℕ, zero, suc, ◌+◌, ◌<◌, ◌≤◌, max, Option, None, Some, List, [], ◌∷◌, ◌++◌, length, refl, sym, ap, ◌∙◌, arith, subst, All}
-use Rattle.std.specs.Option.{ForSome}
+use Rattle.std.proofs.Common.{◌≡◌, ℕ, zero, suc, ◌+◌, ◌≤◌, max, Option, None, Some, List, [], ◌∷◌, ◌++◌, length, refl, sym, ap, ◌∙◌, arith, subst, All}
 use Rattle.std.proofs.lemmas.List.{length-append}
 use Rattle.pooma_domain.specs.Cells.{Interval, IsIn}
 use Rattle.pooma_view.specs.Slots.{positions_of}
@@ -8,7 +7,7 @@ use Rattle.pooma_view.specs.Views.{Viewed}
 use Rattle.pooma_expr.specs.declared.tree.Expr.{Expr}
 use Rattle.pooma_expr.specs.declared.tree.Expr.TheOpen.{Expr-F}
 use Rattle.pooma_expr.specs.declared.tree.Expr.TheViews.{roll-Expr}
-use Rattle.pooma_expr.specs.declared.tree.Expr.TheFolds.{fold-Expr, fold-roll-Expr}
+use Rattle.pooma_expr.specs.declared.tree.Expr.TheFolds.{fold-roll-Expr}
 use Rattle.pooma_expr.specs.Trees.{axes_at, axes_needed, depth_by, depth_of, greatest_by, scalars_at, scalars_needed, views_by, views_of}
 use Rattle.pooma_model.specs.Assigning.{whole_value}
 use Rattle.pooma_model.specs.Declarations.{Declared}

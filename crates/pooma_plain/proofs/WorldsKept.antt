@@ -1,14 +1,14 @@
 -- Worlds of what is declared: where their arrays are, and that changes leave them worlds of it.
-use Rattle.std.proofs.Common.{◌≡◌, ℕ, zero, suc, ◌+◌, ◌<◌, ◌≤◌, ℤ, pos, Option, None, Some, List, [], ◌∷◌, ◌++◌, length, take, get_or, set, map, replicate, refl, sym, ap, ◌∙◌, arith, subst, All}
+use Rattle.std.proofs.Common.{◌≡◌, ℕ, zero, suc, ◌<◌, ℤ, pos, Some, List, [], ◌∷◌, length, get_or, map, refl, sym, ap, ◌∙◌, arith}
 use Rattle.std.specs.List.{slice_get}
 use Rattle.std.specs.Prelude.{slice_set}
-use Rattle.std.proofs.lemmas.List.{length-map, length-set, length-replicate, get_or-map, get_or-set_same, map-set, set-get_or, get_or_default}
+use Rattle.std.proofs.lemmas.List.{length-map, length-set, length-replicate, get_or-map, map-set}
 use Rattle.std.proofs.lemmas.List.Elements.{All-set, All-map}
-use Rattle.std.proofs.lemmas.Option.{get_or_from_slice_get, slice_get_within, slice_get-get_or, same_Some}
-use Rattle.pooma_domain.specs.Cells.{Interval, cells_of}
-use Rattle.pooma_field.specs.Numbered.{Numbered, Change, IsFull, place_in, with_number, with_changes}
+use Rattle.std.proofs.lemmas.Option.{get_or_from_slice_get}
+use Rattle.pooma_domain.specs.Cells.{Interval}
+use Rattle.pooma_field.specs.Numbered.{Numbered, Change, IsFull, with_number, with_changes}
 use Rattle.pooma_field.specs.Shapes.{Shaped, own_area}
-use Rattle.pooma_field.specs.Worlds.{World, array_of, changed, opening_world, with_scalar, zeros}
+use Rattle.pooma_field.specs.Worlds.{World, array_of, opening_world, with_scalar, zeros}
 use Rattle.pooma_model.specs.Declarations.{Declared, shape_at}
 use Rattle.pooma_plain.specs.declared.array.Placed.{Placed}
 use Rattle.pooma_plain.specs.Plain.{IsWorldOf, placed_in, with_placed}

@@ -9,12 +9,11 @@ use Rattle.pooma_field.specs.Shapes.{own_area}
 use Rattle.pooma_field.specs.Worlds.{World, with_scalar}
 use Rattle.pooma_expr.specs.declared.tree.Expr.{Expr}
 use Rattle.pooma_expr.specs.Trees.{axes_needed, depth_of, scalars_needed, views_of}
-use Rattle.pooma_model.specs.Assigning.{Effect, Becomes, Faults, Given, Number, Nothing, Fails, Fault, Place, Position, Sum, fault_of, first_of, given_by}
+use Rattle.pooma_model.specs.Assigning.{Effect, Becomes, Faults, Given, Number, Nothing, Fails, Fault, fault_of, first_of, given_by}
 use Rattle.pooma_model.specs.Declarations.{Declared, seen_in, value_in}
 use Rattle.pooma_model.specs.Fit.{IsReadable}
+use Rattle.pooma_print.specs.Texts.{place_of}
 use Rattle.pooma_plain.specs.declared.fault.Fault as declared_fault
-use Rattle.pooma_plain.specs.declared.fault.Place as declared_place
-use Rattle.pooma_plain.specs.declared.fault.Place.TheVariants as at
 use Rattle.pooma_plain.specs.declared.array.Placed.{Placed}
 
 -- the world has a number for each own cell of each declared array, and one for each scalar
@@ -83,12 +82,8 @@ given_seen (Ok (Some n)) = Number n
 given_seen (Ok None) = Nothing
 given_seen (Err kind) = Fails kind
 
-abbrev pub place_seen : declared_place.Place → Place
-place_seen (at.Position p) = Position p
-place_seen at.Sum = Sum
-
 abbrev pub fault_seen : declared_fault.Fault → Fault
-fault_seen fault = record { place = place_seen fault.place; kind = fault.kind }
+fault_seen fault = record { place = place_of fault.place; kind = fault.kind }
 
 -- what a statement made of a world, where it becomes this one or there is a fault
 abbrev pub effect_seen : Option declared_fault.Fault → World → Effect

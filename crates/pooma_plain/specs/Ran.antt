@@ -1,5 +1,5 @@
 -- What the plain engine found a run to be, in the words of its definition.
-use Rattle.std.specs.Prelude.{ℕ, Bool, true, false, List, ◌++◌}
+use Rattle.std.specs.Prelude.{ℕ, List, ◌++◌}
 use Rattle.pooma_field.specs.Worlds.{opening_world}
 use Rattle.pooma_model.specs.Order.{Programmed}
 use Rattle.pooma_model.specs.Serial.{Run, serial}

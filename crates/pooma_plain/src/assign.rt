@@ -11,12 +11,13 @@ ghost use Rattle.pooma_plain.specs.Plain.{effect_seen, fault_seen, given_seen, p
 
 use crate::array::{Array, Placed};
 use crate::arrays::Arrays;
-use crate::fault::{Fault, Place};
+use crate::fault::Fault;
 use crate::scene::Scene;
 use pooma_domain::Cell;
 use pooma_expr::{Code, Expr};
 use pooma_model::Program;
 use pooma_num::FaultKind;
+use pooma_print::FaultPlace;
 use pooma_view::View;
 use std::alloc::{AllocError, Global};
 
@@ -123,7 +124,7 @@ fn changes(
         let number = match given(scene, value, mask, &p) {
             Ok(number) => number,
             Err(kind) => {
-                let place = Place::Position(p);
+                let place = FaultPlace::Position(p);
                 return Ok(Err(Fault { place, kind }));
             }
         };

@@ -7,11 +7,12 @@ ghost use Rattle.pooma_field.specs.Worlds.{World};
 ghost use Rattle.pooma_plain.specs.Plain.{effect_seen, reduction_seen, value_fault, without_scalars, CanEvaluateOver, IsWorldOf};
 
 use crate::arrays::Arrays;
-use crate::fault::{Fault, Place};
+use crate::fault::Fault;
 use crate::scene::Scene;
 use pooma_domain::BoxN;
 use pooma_expr::{Code, Expr, Partial, Reduction};
 use pooma_model::Program;
+use pooma_print::FaultPlace;
 use std::alloc::{AllocError, Global};
 
 impl Arrays {
@@ -62,7 +63,7 @@ fn reduction_over(
         match scene.value_at(code, &p) {
             Ok(number) => partial.push(number),
             Err(kind) => {
-                let place = Place::Position(p);
+                let place = FaultPlace::Position(p);
                 return Err(Fault { place, kind });
             }
         }
@@ -70,7 +71,7 @@ fn reduction_over(
     match partial.finish() {
         Ok(number) => Ok(number),
         Err(kind) => {
-            let place = Place::Sum;
+            let place = FaultPlace::Sum;
             Err(Fault { place, kind })
         }
     }

@@ -11,8 +11,9 @@ ghost use Rattle.pooma_plain.specs.Ran.{after, run_seen, serial_of};
 use crate::arrays::Arrays;
 use crate::fault::Fault;
 use crate::scene::Scene;
-use crate::texts::{push_fault, push_row, push_view};
+use crate::texts::push_view;
 use pooma_model::{Action, Program, Statement};
+use pooma_print::{fault_text, scalar_text};
 use std::alloc::{AllocError, Global};
 
 /// What a run wrote, and whether a fault ended it.
@@ -63,7 +64,7 @@ impl Arrays {
         match self.execute(alloc, program, &statement.action, out)? {
             None => Ok(false),
             Some(Fault { place, kind }) => {
-                push_fault(alloc, out, statement.line, place, kind)?;
+                fault_text(alloc, out, statement.line, &place, kind)?;
                 Ok(true)
             }
         }
@@ -100,7 +101,7 @@ impl Arrays {
                 Ok(None)
             }
             Action::PrintScalar { scalar } => {
-                push_row(alloc, out, &[self.scalar(*scalar)])?;
+                scalar_text(alloc, out, self.scalar(*scalar))?;
                 Ok(None)
             }
             Action::Block => Ok(None),

@@ -1,16 +1,15 @@
-use Rattle.std.proofs.Common.{◌≡◌, ◌∙◌, ap, sym, subst, ℕ, ◌<◌, ◌++◌, Some, Option, ℤ, List, [], length, map, take, get_or, arith}
+use Rattle.std.proofs.Common.{◌≡◌, ◌∙◌, ap, sym, subst, ℕ, ◌<◌, ◌++◌, Some, ℤ, List, [], length, map, take, get_or, arith}
 use Rattle.std.specs.List.{cons_option, slice_get, filter_map}
 use Rattle.std.proofs.lemmas.List.{take_all}
 use Rattle.pooma_domain.specs.Cells.{Interval, cells_of, IsIn}
 use Rattle.pooma_view.specs.Slots.{cell_named, positions_of}
-use Rattle.pooma_field.specs.Numbered.{Numbered, Change}
+use Rattle.pooma_field.specs.Numbered.{Numbered}
 use Rattle.pooma_field.specs.Shapes.{own_area}
 use Rattle.pooma_field.specs.Worlds.{World, array_of}
-use Rattle.pooma_expr.specs.declared.tree.Expr.{Expr}
 use Rattle.pooma_model.specs.Assigning.{Given, change_of, fault_of, first_of, given_at}
 use Rattle.pooma_model.specs.Declarations.{shape_at}
 use Rattle.pooma_plain.specs.declared.array.Placed.{Placed}
-use Rattle.pooma_plain.specs.Plain.{CanEvaluate, Seen, IsWorldOf, placed_in, placed_of, without_scalars}
+use Rattle.pooma_plain.specs.Plain.{placed_in, placed_of, without_scalars}
 use Rattle.pooma_plain.proofs.GivenNumbers.{no_fault, placed_given}
 use Rattle.pooma_plain.proofs.Walks.{first_found, made_next, none_so_far}
 use Rattle.pooma_plain.proofs.WholeValues.{can_at}

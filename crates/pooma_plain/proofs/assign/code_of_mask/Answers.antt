@@ -1,4 +1,4 @@
-use Rattle.std.proofs.Common.{◌≡◌, sym, subst, Option, None, Some}
+use Rattle.std.proofs.Common.{sym, subst, Option, None, Some}
 use Rattle.pooma_expr.specs.declared.tree.Expr.{Expr}
 use Rattle.pooma_plain.specs.Plain.{IsCodeOfMask}
 use Rattle.pooma_plain.proofs.assign.code_of_mask.Goals as goal

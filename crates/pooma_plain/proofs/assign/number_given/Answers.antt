@@ -1,5 +1,5 @@
 use Rattle.std.proofs.Common.{◌≡◌, ◌∙◌, ap, ℤ, rules, to_z, of_z, w64}
-use Rattle.pooma_model.specs.Assigning.{Given, Number, given_by}
+use Rattle.pooma_model.specs.Assigning.{Number, given_by}
 use Rattle.pooma_plain.proofs.assign.number_given.Goals as goal
 
 pub value_at-requires : goal.value_at-requires

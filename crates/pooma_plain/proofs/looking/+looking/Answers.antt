@@ -1,4 +1,4 @@
-use Rattle.std.proofs.Common.{◌≡◌, ◌∙◌, ap, sym, refl, subst, ℕ, ◌+◌, ◌*◌, ◌<◌, length, Option, Some, ℤ, neg_ℤ, List, set, arith, rules, to_z, of_z, w32, w64, length-set}
+use Rattle.std.proofs.Common.{◌≡◌, ◌∙◌, ap, sym, refl, subst, ◌+◌, ◌*◌, ◌<◌, length, Option, Some, ℤ, neg_ℤ, List, arith, rules, to_z, of_z, w32, w64, length-set}
 use Rattle.std.specs.Prelude.{IsSome, slice_set}
 use Rattle.std.proofs.lemmas.Option.{same_Some}
 use Rattle.pooma_domain.specs.Axes.{interval_of}
@@ -7,7 +7,7 @@ use Rattle.pooma_field.specs.Look.{look}
 use Rattle.pooma_field.specs.Numbered.{number_at}
 use Rattle.pooma_field.specs.ShapeOf.{shape_of}
 use Rattle.pooma_field.specs.Shapes.{inside_from}
-use Rattle.pooma_field.specs.Updaters.{clamped, face}
+use Rattle.pooma_field.specs.Updaters.{clamped}
 use Rattle.pooma_plain.specs.Looking.{axis_at, number_on}
 use Rattle.pooma_plain.proofs.InsideCells.{dims_of_cell, goes_lower, moved_inside, moved_total}
 use Rattle.pooma_plain.proofs.LookedUp.{axis_is, number_is, on_line}

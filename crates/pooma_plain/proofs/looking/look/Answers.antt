@@ -1,7 +1,7 @@
 use Rattle.std.proofs.Common.{◌≡◌, ◌∙◌, ap, sym, subst, Option, List, rules, to_z, of_z, w64}
 use Rattle.pooma_domain.specs.Cells.{Interval, IsIn}
 use Rattle.pooma_field.specs.declared.faces.Ends.{Ends}
-use Rattle.pooma_field.specs.Look.{look, looked_up}
+use Rattle.pooma_field.specs.Look.{looked_up}
 use Rattle.pooma_field.specs.Numbered.{number_at}
 use Rattle.pooma_field.specs.ShapeOf.{shape_of}
 use Rattle.pooma_plain.proofs.InsideCells.{inside_all, own_field, own_plain}

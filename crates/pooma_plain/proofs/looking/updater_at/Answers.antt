@@ -1,11 +1,8 @@
-use Rattle.std.proofs.Common.{◌≡◌, ◌∙◌, ap, sym, subst, ◌<◌, length, Option, ℤ, List, arith, rules, to_z, of_z, w32}
-use Rattle.std.specs.Option.{ForSome}
+use Rattle.std.proofs.Common.{◌≡◌, ◌∙◌, ap, length, ℤ, arith, rules, to_z, of_z, w32}
 use Rattle.pooma_domain.specs.Axes.{interval_of}
-use Rattle.pooma_field.specs.declared.faces.Ends.{Ends}
 use Rattle.pooma_field.specs.Faces.{facing}
 use Rattle.pooma_field.specs.Look.{look}
 use Rattle.pooma_field.specs.ShapeOf.{shape_of}
-use Rattle.pooma_field.specs.Sources.{source_of}
 use Rattle.std.specs.Prelude.{slice_set}
 use Rattle.pooma_plain.proofs.InsideCells.{dims_of_cell}
 use Rattle.pooma_plain.proofs.LookedUp.{axis_is, number_is, same_source, same_updated}

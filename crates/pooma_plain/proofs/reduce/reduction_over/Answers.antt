@@ -1,12 +1,12 @@
-use Rattle.std.proofs.Common.{◌≡◌, ◌∙◌, ap, sym, subst, ℕ, ◌+◌, ◌<◌, ◌≤◌, ◌^◌, ◌++◌, ◌∷◌, [], None, Some, Ok, Option, ℤ, List, length, take, arith, rules, to_z, of_z, w64}
-use Rattle.std.specs.List.{slice_get, filter_map}
+use Rattle.std.proofs.Common.{◌≡◌, ◌∙◌, ap, sym, subst, ◌++◌, ◌∷◌, [], None, Option, ℤ, List, take, arith, rules, to_z, of_z, w64}
+use Rattle.std.specs.List.{filter_map}
 use Rattle.std.proofs.lemmas.List.{take_all}
 use Rattle.pooma_domain.specs.Cells.{cells_of}
 use Rattle.pooma_field.specs.Worlds.{with_scalar}
 use Rattle.pooma_expr.specs.declared.reduction.Reduction.{Reduction}
-use Rattle.pooma_expr.specs.Reductions.{Kept, StandsFor, result_over}
+use Rattle.pooma_expr.specs.Reductions.{StandsFor, result_over}
 use Rattle.pooma_expr.specs.Values.{Checked}
-use Rattle.pooma_model.specs.Assigning.{Becomes, Effect, Fault, fault_of, first_of, given_by}
+use Rattle.pooma_model.specs.Assigning.{Becomes, Fault, fault_of, first_of, given_by}
 use Rattle.pooma_model.specs.Declarations.{value_in}
 use Rattle.pooma_model.specs.Reducing.{fault_before, number_in, scalar_given, values_over}
 use Rattle.pooma_plain.specs.Plain.{value_fault, without_scalars}

@@ -1,6 +1,6 @@
-use Rattle.std.proofs.Common.{◌≡◌, ◌∙◌, ap, sym, subst, ℕ, List}
+use Rattle.std.proofs.Common.{◌∙◌, ap, sym, subst, ℕ, List}
 use Rattle.std.proofs.lemmas.List.Elements.{All-rest}
-use Rattle.pooma_field.specs.Worlds.{World, opening_world}
+use Rattle.pooma_field.specs.Worlds.{World}
 use Rattle.pooma_model.specs.declared.statement.Statement.{Statement}
 use Rattle.pooma_model.specs.Fit.{AreFit, IsFit}
 use Rattle.pooma_model.specs.Serial.{serial}

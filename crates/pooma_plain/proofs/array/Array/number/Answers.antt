@@ -1,6 +1,6 @@
-use Rattle.std.proofs.Common.{◌≡◌, ◌∙◌, ap, sym, subst, ℕ, ◌<◌, ℤ, pos, List, length, get_or, arith, rules, to_z, of_z, w64}
+use Rattle.std.proofs.Common.{◌≡◌, ◌∙◌, ap, sym, ℕ, ◌<◌, ℤ, pos, List, length, get_or, arith, rules, to_z, of_z, w64}
 use Rattle.std.proofs.lemmas.List.{get_or_read}
-use Rattle.pooma_domain.specs.Cells.{Interval, cells_of, IsIn}
+use Rattle.pooma_domain.specs.Cells.{Interval, cells_of}
 use Rattle.pooma_field.specs.Numbered.{Numbered, number_at, place_in}
 use Rattle.pooma_plain.proofs.array.Array.number.Goals as goal
 

@@ -1,4 +1,4 @@
-use Rattle.std.proofs.Common.{◌≡◌, ◌∙◌, ap, sym, ◌<◌, length, arith}
+use Rattle.std.proofs.Common.{◌≡◌, ◌∙◌, ap, sym, length, arith}
 use Rattle.pooma_domain.specs.Cells.{cells_of}
 use Rattle.pooma_field.specs.Numbered.{Numbered, place_in}
 use Rattle.pooma_plain.proofs.array.Array.place.Goals as goal

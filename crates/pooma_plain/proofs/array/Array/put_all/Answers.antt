@@ -1,4 +1,4 @@
-use Rattle.std.proofs.Common.{◌≡◌, ◌∙◌, ap, sym, ◌+◌, ◌<◌, ℤ, pos, List, length, drop, get_or, arith, length-set, rules, to_z, of_z, w64}
+use Rattle.std.proofs.Common.{◌≡◌, ◌∙◌, ap, sym, ◌+◌, ℤ, pos, List, length, drop, get_or, arith, length-set, rules, to_z, of_z, w64}
 use Rattle.std.specs.Prelude.{slice_set}
 use Rattle.pooma_plain.specs.declared.array.Placed.{Placed}
 use Rattle.std.proofs.lemmas.List.{at_drop_more, at_drop_all}

@@ -1,10 +1,8 @@
-use Rattle.std.proofs.Common.{◌≡◌, ◌∙◌, ap, sym, subst, refl, ℕ, ◌<◌, Some, List, [], length, arith, rules, All}
-use Rattle.pooma_domain.specs.Cells.{Interval, cells_of}
+use Rattle.std.proofs.Common.{◌≡◌, ◌∙◌, ap, sym, subst, refl, ℕ, ◌<◌, List, [], length, arith, All}
 use Rattle.pooma_view.specs.Slots.{positions_of}
-use Rattle.pooma_field.specs.Numbered.{Numbered, IsFull}
+use Rattle.pooma_field.specs.Numbered.{Numbered}
 use Rattle.pooma_field.specs.Worlds.{World, array_of}
-use Rattle.pooma_expr.specs.declared.tree.Expr.{Expr}
-use Rattle.pooma_model.specs.Assigning.{Effect, Becomes, Faults, assigned, whole_value}
+use Rattle.pooma_model.specs.Assigning.{Becomes, assigned, whole_value}
 use Rattle.pooma_model.specs.Declarations.{Declared}
 use Rattle.pooma_model.specs.Fit.{IsValueOver, IsWritable}
 use Rattle.pooma_plain.specs.declared.array.Placed.{Placed}

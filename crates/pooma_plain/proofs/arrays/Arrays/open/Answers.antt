@@ -1,11 +1,10 @@
-use Rattle.std.proofs.Common.{◌≡◌, ◌∙◌, ap, sym, ◌+◌, ◌++◌, ◌∷◌, [], ◌<◌, ℕ, ℤ, pos, List, length, map, take, replicate, arith}
+use Rattle.std.proofs.Common.{◌∙◌, ap, sym, ◌++◌, ◌∷◌, [], ℕ, ℤ, pos, List, length, map, replicate, arith}
 use Rattle.std.proofs.lemmas.List.{take_all}
 use Rattle.pooma_domain.specs.Cells.{Interval, cells_of}
 use Rattle.pooma_field.specs.ShapeOf.{shape_of}
 use Rattle.pooma_field.specs.Numbered.{Numbered}
-use Rattle.pooma_field.specs.Shapes.{Shaped}
 use Rattle.pooma_field.specs.Worlds.{World, zeros}
-use Rattle.pooma_plain.proofs.RowTexts.{map_more}
+use Rattle.pooma_print.proofs.Lists.{map_more}
 use Rattle.pooma_plain.proofs.arrays.Arrays.open.Goals as goal
 
 pub shape-requires : goal.shape-requires

@@ -1,10 +1,9 @@
-use Rattle.std.proofs.Common.{◌≡◌, ◌∙◌, ap, sym, subst, ◌<◌, ℤ, List, length, arith, rules, to_z, of_z, w64}
+use Rattle.std.proofs.Common.{◌≡◌, ◌∙◌, ap, sym, subst, ℤ, arith, rules, to_z, of_z, w64}
 use Rattle.pooma_field.specs.Worlds.{World, with_scalar}
-use Rattle.pooma_domain.specs.Cells.{Interval}
-use Rattle.pooma_model.specs.Assigning.{Effect, Becomes, Faults}
+use Rattle.pooma_model.specs.Assigning.{Becomes}
 use Rattle.pooma_model.specs.Fit.{IsValueOver}
 use Rattle.pooma_model.specs.Reducing.{reduced}
-use Rattle.pooma_plain.specs.Plain.{Seen, IsCodable, IsCodeOf, IsWorldOf, fault_seen}
+use Rattle.pooma_plain.specs.Plain.{Seen, IsCodable, IsWorldOf}
 use Rattle.pooma_plain.proofs.GivenNumbers.{reduced_same}
 use Rattle.pooma_plain.proofs.WholeValues.{can_over, codable}
 use Rattle.pooma_plain.proofs.WorldsKept.{with_scalar_known}

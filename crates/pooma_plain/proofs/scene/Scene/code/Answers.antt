@@ -1,4 +1,4 @@
-use Rattle.std.proofs.Common.{◌≡◌, ◌∙◌, ap, sym, ◌≤◌, ℤ, List, length, arith}
+use Rattle.std.proofs.Common.{◌∙◌, ap, ℤ, List, length, arith}
 use Rattle.pooma_expr.specs.Values.{value}
 use Rattle.pooma_model.specs.Declarations.{seen_in}
 use Rattle.pooma_plain.specs.Plain.{Seen, IsWorldOf}

@@ -5,7 +5,7 @@ use Rattle.pooma_field.specs.ShapeOf.{shape_of}
 use Rattle.pooma_field.specs.Look.{look}
 use Rattle.pooma_field.specs.Numbered.{Numbered, number_at}
 use Rattle.pooma_field.specs.Shapes.{Shaped, own_area}
-use Rattle.pooma_field.specs.Worlds.{World, array_of, look_in, number_of}
+use Rattle.pooma_field.specs.Worlds.{World, look_in}
 use Rattle.pooma_model.specs.Declarations.{Declared, shape_at}
 use Rattle.pooma_plain.specs.Plain.{Seen, IsWorldOf}
 use Rattle.pooma_plain.proofs.WorldsKept.{area_is, array_is, arrays_there, shape_is}

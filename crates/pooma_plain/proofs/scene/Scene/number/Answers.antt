@@ -1,6 +1,5 @@
 use Rattle.std.proofs.Common.{◌≡◌, ◌∙◌, ap, sym, subst, ℕ, ◌<◌, ℤ, List, length, rules, to_z, of_z, w64}
 use Rattle.pooma_domain.specs.Cells.{IsIn}
-use Rattle.pooma_view.specs.Slots.{cell_named}
 use Rattle.pooma_field.specs.Worlds.{look_in}
 use Rattle.pooma_model.specs.Declarations.{shape_at}
 use Rattle.pooma_plain.proofs.scene.Scene.number.Goals as goal

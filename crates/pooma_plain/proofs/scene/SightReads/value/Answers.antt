@@ -1,11 +1,10 @@
-use Rattle.std.proofs.Common.{◌≡◌, ◌∙◌, ap, sym, subst, [], length, rules, to_z, of_z, w64}
+use Rattle.std.proofs.Common.{◌≡◌, ◌∙◌, ap, sym, subst, [], rules, to_z, of_z, w64}
 use Rattle.std.proofs.lemmas.List.{get_or_default}
 use Rattle.pooma_domain.specs.Cells.{IsIn}
 use Rattle.pooma_view.specs.Slots.{cell_named, positions_of}
 use Rattle.pooma_view.specs.Views.{Viewed}
 use Rattle.pooma_model.specs.Declarations.{seen_in}
 use Rattle.pooma_model.specs.Fit.{IsReadable}
-use Rattle.pooma_plain.specs.Plain.{view_at}
 use Rattle.pooma_plain.proofs.scene.SightReads.value.Goals as goal
 
 pub number-requires-clause-readable : goal.number-requires-clause-readable

@@ -1,0 +1,3 @@
+mod Joined
+pub mod Lists
+mod Rows
