@@ -3,7 +3,7 @@ use Rattle.std.proofs.Common.{refl, sym, ap, ◌∙◌, subst, inl, inr, ⊎_eli
 use Rattle.std.proofs.lemmas.Bool.{cases_lt, false≢true, lt-ltb, le-ltb}
 use Rattle.std.proofs.lemmas.Int.{ints}
 use Rattle.std.proofs.lemmas.List.Elements.{All-nil, All-cons, All-head, All-tail, All-map, All-weaker}
-use Rattle.std.proofs.lemmas.Option.{slice_get-get_or, slice_get_within}
+use Rattle.std.proofs.lemmas.Option.{get_or_from_slice_get, slice_get-get_or, slice_get_within}
 use Rattle.std.proofs.lemmas.Simd.{map-map}
 use Rattle.std.specs.Prelude.{◌≡◌, ◌⊎◌, ℕ, zero, suc, ◌<◌, ◌≤◌, nat_lt, ℤ, pos, ◌+ℤ◌, ◌-ℤ◌, ◌≤ℤ◌, Bool, true, false, Option, Some, None, IsSome, option_and_then, option_map, List, [], ◌∷◌, ◌++◌, length, map, slice_get, slice_index_or, slice_set, take, drop, All, AllPairs, Contains, if◌then◌else◌}
 use Rattle.pooma_domain.specs.Cells.{Interval, axis_length, cells_of, IsIn}
@@ -163,6 +163,23 @@ source_is_first shape slab c cell =
     source_by shape.faces cell.faces shape.physical slab.axis c axis cell.ends x cell.faces_are (record { axis_there = cell.axis; ends_there = cell.face; coordinate = cell.coordinate })
     ∙ ap (λ (u : Updater). option_map (λ y. slice_set c slab.axis y) (source_number u axis x)) cell.updater
     ∙ source_first slab.updater axis x (λ y. slice_set c slab.axis y)
+
+-- the other source of `extrapolate`
+pub second_source : (u : Updater) (axis : Interval) (x : ℤ) (f : ℤ → List ℤ) (place : ℕ) → 0 < place → place < length (map f (sources_along u axis x)) → slice_get (map f (sources_along u axis x)) place ≡ Some (f (inner axis x))
+second_source (Constant k) axis x f place later there = absurd (omega (arith, there))
+second_source Periodic axis x f place later there = absurd (omega (arith, later, there))
+second_source Reflect axis x f place later there = absurd (omega (arith, later, there))
+second_source Antireflect axis x f place later there = absurd (omega (arith, later, there))
+second_source Extrapolate axis x f zero later there = absurd (omega (arith, later))
+second_source Extrapolate axis x f (suc zero) later there = refl
+second_source Extrapolate axis x f (suc (suc place)) later there = absurd (omega (arith, there))
+
+pub coordinate_at_is : (c : List ℤ) (n : ℕ) (x : ℤ) → slice_get c n ≡ Some x → coordinate_at c n ≡ x
+coordinate_at_is c n x at = get_or_from_slice_get c n x _ at
+
+pub some_source : (sources : List (List ℤ)) (o : Option (List ℤ)) (place : ℕ) → place ≡ 0 → place < length sources → o ≡ slice_get sources 0 → IsSome o
+some_source [] o place first there is = absurd (omega (arith, there))
+some_source (s ∷ sources) o place first there is = rw is refl
 
 -- ---- which cells lie in slabs
 

@@ -4,6 +4,7 @@
 
 mod beside;
 mod faces;
+mod filling;
 mod laws;
 mod shapes;
 mod sources;

@@ -100,8 +100,8 @@ fn mirror(axis: Axis, x: i32) -> i32
     }
 }
 
-// The end of the axis on the number's side.
-fn face(axis: Axis, x: i32) -> i32
+/// The end of the axis on the number's side.
+pub(crate) fn face(axis: Axis, x: i32) -> i32
     ensures { result ≡ face (interval_of axis) x }
 {
     if x < axis.first {
