@@ -1,0 +1,9 @@
+pub mod Adding
+pub mod Along
+pub mod Changing
+pub mod Dividing
+pub mod Finding
+pub mod Laying
+pub mod Making
+pub mod Sets
+pub mod Stepping
