@@ -1,66 +1,76 @@
 use pooma_domain::{Axis, BoxN, Cell, Strided};
-use std::test::Fail;
 
-fn axis(first: i32, last: i32) -> Result<Axis, Fail> {
-    Ok(Axis::of(first, last).ok_or("an axis")?)
+// How many numbers there are, the last of them, and its place.
+fn last_of(first: i8, last: i8, stride: i8) -> Option<(u32, i32, Option<u32>)> {
+    let numbers = Strided::of(i32::from(first), i32::from(last), i32::from(stride))?;
+    let end = numbers.at(numbers.count - 1);
+    Some((numbers.count, end, numbers.place_of(end)))
 }
 
+const STRIDES: &[((i8, i8, i8), Option<(u32, i32, Option<u32>)>)] = &[
+    ((5, 0, -2), Some((3, 1, Some(2)))),
+    ((0, 6, 2), Some((4, 6, Some(3)))),
+    ((1, 7, 4), Some((2, 5, Some(1)))),
+    ((3, 3, -1), Some((1, 3, Some(0)))),
+    ((0, 5, -1), None),
+    ((0, 5, 0), None),
+];
+
 #[test]
-fn strides_count_to_the_last_number(rt: HostRuntime) -> Result<(), Fail> {
-    let table = [
-        (5, 0, -2, 3, 1),
-        (0, 6, 2, 4, 6),
-        (1, 7, 4, 2, 5),
-        (3, 3, -1, 1, 3),
-    ];
-    for (first, last, stride, count, end) in table {
-        let numbers = Strided::of(first, last, stride).ok_or("some numbers")?;
-        assert_eq!(rt; numbers.count, count);
-        assert_eq!(rt; numbers.place_of(end), Some(count - 1));
-        assert_eq!(rt; numbers.at(count - 1), end);
+fn strides_count_to_the_last_number(rt: HostRuntime) {
+    for ((first, last, stride), found) in STRIDES {
+        assert_eq!(rt; last_of(*first, *last, *stride), *found);
     }
-    assert_eq!(rt; Strided::of(0, 5, -1), None);
-    assert_eq!(rt; Strided::of(0, 5, 0), None);
-    Ok(())
 }
 
-fn block() -> Result<BoxN, Fail> {
-    Ok(BoxN::of3(axis(-1, 1)?, axis(0, 3)?, axis(5, 6)?).ok_or("a box")?)
+fn block() -> Option<BoxN> {
+    BoxN::of3(Axis::of(-1, 1)?, Axis::of(0, 3)?, Axis::of(5, 6)?)
 }
 
-#[test]
-fn corners_have_their_places(rt: HostRuntime) -> Result<(), Fail> {
+// The place of a cell of the box, and whether it is the cell at that place. None for another cell.
+fn place_of(c: &Cell) -> Option<(u64, bool)> {
     let block = block()?;
-    assert_eq!(rt; block.count(), 24);
-    let table = [
-        (-1, 0, 5, 0),
-        (1, 0, 5, 2),
-        (-1, 3, 5, 9),
-        (-1, 0, 6, 12),
-        (1, 3, 6, 23),
-    ];
-    for (a, b, c, place) in table {
-        let corner = Cell::of3(a, b, c);
-        assert!(rt; block.contains(&corner));
-        assert_eq!(rt; block.place_of(&corner), place);
-        assert_eq!(rt; block.cell_at(place), corner);
+    if !block.contains(c) {
+        return None;
     }
-    Ok(())
+    let place = block.place_of(c);
+    Some((place, block.cell_at(place) == *c))
+}
+
+const CORNERS: &[((i32, i32, i32), Option<(u64, bool)>)] = &[
+    ((-1, 0, 5), Some((0, true))),
+    ((1, 0, 5), Some((2, true))),
+    ((-1, 3, 5), Some((9, true))),
+    ((-1, 0, 6), Some((12, true))),
+    ((1, 3, 6), Some((23, true))),
+    ((2, 0, 5), None),
+];
+
+#[test]
+fn corners_have_their_places(rt: HostRuntime) {
+    for ((a, b, c), place) in CORNERS {
+        assert_eq!(rt; place_of(&Cell::of3(*a, *b, *c)), *place);
+    }
 }
 
 #[test]
-fn cells_beside_a_box_are_not_in_it(rt: HostRuntime) -> Result<(), Fail> {
-    let block = block()?;
-    assert!(rt; !block.contains(&Cell::of3(2, 0, 5)));
-    assert!(rt; !block.contains(&Cell::of2(0, 0)));
-    Ok(())
+fn cells_of_fewer_axes_are_not_in_a_box(rt: HostRuntime) {
+    assert!(rt; place_of(&Cell::of2(0, 0)) == None);
+}
+
+// How many cells the box has, and whether a row of 0 to 3 is a point, a longer row, and the same row.
+fn counted_and_compared() -> Option<(u64, [bool; 3])> {
+    let row = BoxN::of1(Axis::of(0, 3)?);
+    let same = BoxN::of1(Axis::of(0, 3)?);
+    let longer = BoxN::of1(Axis::of(0, 4)?);
+    Some((
+        block()?.count(),
+        [row == BoxN::point(), row == longer, row == same],
+    ))
 }
 
 #[test]
-fn boxes_are_the_same_where_their_axes_are(rt: HostRuntime) -> Result<(), Fail> {
-    let row = BoxN::of1(axis(0, 3)?);
-    assert_eq!(rt; block()?, block()?);
-    assert!(rt; row != BoxN::point());
-    assert!(rt; row != BoxN::of1(axis(0, 4)?));
-    Ok(())
+fn boxes_are_the_same_where_their_axes_are(rt: HostRuntime) {
+    assert!(rt; counted_and_compared() == Some((24, [false, false, true])));
+    assert!(rt; block() == block());
 }

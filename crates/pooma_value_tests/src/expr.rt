@@ -8,7 +8,6 @@ use pooma_num::FaultKind::{self, Overflow, ZeroDivisor};
 use pooma_view::{Slot, View};
 use sqlite_items::Boxed;
 use std::alloc::{AllocError, Global};
-use std::test::Fail;
 
 const MOST: i64 = i64::MAX;
 
@@ -50,13 +49,13 @@ fn value(
     Ok(Some(eval_at(&code, &Numbers { numbers }, p)))
 }
 
-// The value of an expression without reads and scalars.
+// The value of an expression without reads and scalars, if there is memory for it.
 fn alone(
     alloc: Global,
-    expr: &Expr,
+    expr: Result<Expr, AllocError>,
     p: &Cell,
 ) -> Result<Option<Result<i64, FaultKind>>, AllocError> {
-    value(alloc, expr, &[], &[], p)
+    value(alloc, &expr?, &[], &[], p)
 }
 
 // `(-MOST - 1) / -1`
@@ -81,60 +80,79 @@ fn two_faults(alloc: Global) -> Result<Expr, AllocError> {
 }
 
 #[test]
-fn faults_without_a_position(rt: HostRuntime) -> Result<(), Fail> {
+fn faults_without_a_position(rt: HostRuntime) {
     let alloc = rt.alloc();
     let at = Cell::none();
-    let zero = bin(alloc, Op::Rem, Expr::Literal(5), Expr::Literal(0))?;
-    assert_eq!(rt;
-        alone(alloc, &least_by_minus_one(alloc)?, &at)?,
-        Some(Err(Overflow))
-    );
-    assert_eq!(rt; alone(alloc, &zero, &at)?, Some(Err(ZeroDivisor)));
-    assert_eq!(rt;
-        alone(alloc, &two_faults(alloc)?, &at)?,
-        Some(Err(ZeroDivisor))
-    );
-    assert_eq!(rt; alone(alloc, &other_branch(alloc)?, &at)?, Some(Ok(5)));
-    Ok(())
-}
-
-#[test]
-fn values_at_positions(rt: HostRuntime) -> Result<(), Fail> {
-    let alloc = rt.alloc();
-    let divisor = bin(alloc, Op::Sub, Expr::Literal(2), Expr::Index(0))?;
-    let quotient = bin(alloc, Op::Div, Expr::Literal(5), divisor)?;
-    let low = neg(alloc, Expr::Literal(MOST))?;
-    let below = bin(alloc, Op::Sub, low, Expr::Index(0))?;
-    let table = [
-        (0, Ok(2), Ok(-MOST)),
-        (1, Ok(5), Ok(i64::MIN)),
-        (2, Err(ZeroDivisor), Err(Overflow)),
-        (3, Ok(-5), Err(Overflow)),
+    let zero = bin(alloc, Op::Rem, Expr::Literal(5), Expr::Literal(0));
+    let values = [
+        alone(alloc, least_by_minus_one(alloc), &at),
+        alone(alloc, zero, &at),
+        alone(alloc, two_faults(alloc), &at),
+        alone(alloc, other_branch(alloc), &at),
     ];
-    for (x, by, under) in table {
-        let at = Cell::of1(x);
-        assert_eq!(rt; alone(alloc, &quotient, &at)?, Some(by));
-        assert_eq!(rt; alone(alloc, &below, &at)?, Some(under));
+    assert!(rt;
+        values
+            == [
+                Ok(Some(Err(Overflow))),
+                Ok(Some(Err(ZeroDivisor))),
+                Ok(Some(Err(ZeroDivisor))),
+                Ok(Some(Ok(5)))
+            ]
+    );
+}
+
+// `5 / (2 - index(0))`
+fn quotient(alloc: Global) -> Result<Expr, AllocError> {
+    let divisor = bin(alloc, Op::Sub, Expr::Literal(2), Expr::Index(0))?;
+    bin(alloc, Op::Div, Expr::Literal(5), divisor)
+}
+
+// `-MOST - index(0)`
+fn below(alloc: Global) -> Result<Expr, AllocError> {
+    let low = neg(alloc, Expr::Literal(MOST))?;
+    bin(alloc, Op::Sub, low, Expr::Index(0))
+}
+
+// A number for `index(0)`, and the values of these two.
+const BY_POSITION: &[(i32, Result<i64, FaultKind>, Result<i64, FaultKind>)] = &[
+    (0, Ok(2), Ok(-MOST)),
+    (1, Ok(5), Ok(i64::MIN)),
+    (2, Err(ZeroDivisor), Err(Overflow)),
+    (3, Ok(-5), Err(Overflow)),
+];
+
+#[test]
+fn values_at_positions(rt: HostRuntime) {
+    let alloc = rt.alloc();
+    for (x, by, under) in BY_POSITION {
+        let at = Cell::of1(*x);
+        assert_eq!(rt; alone(alloc, quotient(alloc), &at), Ok(Some(*by)));
+        assert_eq!(rt; alone(alloc, below(alloc), &at), Ok(Some(*under)));
     }
-    assert_eq!(rt; alone(alloc, &quotient, &Cell::none())?, None);
-    Ok(())
+    assert!(rt; alone(alloc, quotient(alloc), &Cell::none()) == Ok(None));
+}
+
+// The read of the numbers 0 to 9 of an array.
+fn read(array: u32) -> Expr {
+    let row = Strided {
+        first: 0,
+        stride: 1,
+        count: 10,
+    };
+    Expr::Read(View::new(array, &[Slot::Along(row)]))
+}
+
+// The value of `B + C * s`, where these are the numbers of the scalars, of which `s` is the second.
+fn by_scalar(alloc: Global, scalars: &[i64]) -> Result<Option<Result<i64, FaultKind>>, AllocError> {
+    let product = bin(alloc, Op::Mul, read(1), Expr::Scalar(1))?;
+    let sum = bin(alloc, Op::Add, read(0), product)?;
+    value(alloc, &sum, scalars, &[5, 7], &Cell::of1(4))
 }
 
 #[test]
-fn reads_and_scalars_in_the_order_of_the_text(rt: HostRuntime) -> Result<(), Fail> {
-    let alloc = rt.alloc();
-    let row = Slot::Along(Strided::of(0, 9, 1).ok_or("some numbers")?);
-    let product = bin(
-        alloc,
-        Op::Mul,
-        Expr::Read(View::new(1, &[row])),
-        Expr::Scalar(1),
-    )?;
-    let sum = bin(alloc, Op::Add, Expr::Read(View::new(0, &[row])), product)?;
-    let at = Cell::of1(4);
-    assert_eq!(rt; value(alloc, &sum, &[9, 3], &[5, 7], &at)?, Some(Ok(26)));
-    assert_eq!(rt; value(alloc, &sum, &[9], &[5, 7], &at)?, None);
-    Ok(())
+fn reads_and_scalars_in_the_order_of_the_text(rt: HostRuntime) {
+    assert!(rt; by_scalar(rt.alloc(), &[9, 3]) == Ok(Some(Ok(26))));
+    assert!(rt; by_scalar(rt.alloc(), &[9]) == Ok(None));
 }
 
 // A reduction of which these numbers are done. None where they are more than some.
@@ -163,36 +181,35 @@ fn reduced(reduction: Reduction, low: &[i64], high: &[i64]) -> Option<Result<i64
     Some(first.finish())
 }
 
+// What each reduction of -2, -1 and 0, 1, 2, 3 comes to.
+const REDUCTIONS: &[(Reduction, i64)] = &[
+    (Reduction::Sum, 3),
+    (Reduction::Min, -2),
+    (Reduction::Max, 3),
+    (Reduction::All, 0),
+    (Reduction::Any, 1),
+    (Reduction::Count, 5),
+    (Reduction::BitAnd, 0),
+    (Reduction::BitOr, -1),
+];
+
 #[test]
 fn reductions_of_a_list_in_two_parts(rt: HostRuntime) {
-    let rows = [
-        (Reduction::Sum, 3),
-        (Reduction::Min, -2),
-        (Reduction::Max, 3),
-        (Reduction::All, 0),
-        (Reduction::Any, 1),
-        (Reduction::Count, 5),
-        (Reduction::BitAnd, 0),
-        (Reduction::BitOr, -1),
-    ];
-    for (reduction, value) in rows {
+    for (reduction, value) in REDUCTIONS {
         assert_eq!(rt;
-            reduced(reduction, &[-2, -1], &[0, 1, 2, 3]),
-            Some(Ok(value))
+            (reduction, reduced(*reduction, &[-2, -1], &[0, 1, 2, 3])),
+            (reduction, Some(Ok(*value)))
         );
     }
 }
 
 #[test]
 fn only_the_whole_sum_has_to_fit(rt: HostRuntime) {
-    assert_eq!(rt;
+    let values = [
         reduced(Reduction::Sum, &[MOST, MOST], &[-MOST]),
-        Some(Ok(MOST))
-    );
-    assert_eq!(rt;
         reduced(Reduction::Sum, &[MOST], &[1, 0]),
-        Some(Err(Overflow))
-    );
-    assert_eq!(rt; reduced(Reduction::Min, &[], &[4]), Some(Ok(4)));
-    assert_eq!(rt; reduced(Reduction::Min, &[], &[]), None);
+        reduced(Reduction::Min, &[], &[4]),
+        reduced(Reduction::Min, &[], &[]),
+    ];
+    assert!(rt; values == [Some(Ok(MOST)), Some(Err(Overflow)), Some(Ok(4)), None]);
 }

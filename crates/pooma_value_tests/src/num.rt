@@ -9,32 +9,37 @@ const MOST: i64 = i64::MAX;
 
 #[test]
 fn arithmetic_at_the_edges(rt: HostRuntime) {
-    assert_eq!(rt; add(MOST, 1), Err(Overflow));
-    assert_eq!(rt; add(MOST, LEAST), Ok(-1));
-    assert_eq!(rt; sub(LEAST, 1), Err(Overflow));
-    assert_eq!(rt; sub(-1, LEAST), Ok(MOST));
-    assert_eq!(rt; mul(LEAST, -1), Err(Overflow));
-    assert_eq!(rt; mul(3_037_000_500, 3_037_000_500), Err(Overflow));
-    assert_eq!(rt; neg(LEAST), Err(Overflow));
-    assert_eq!(rt; neg(MOST), Ok(-MOST));
-    assert_eq!(rt; abs(LEAST), Err(Overflow));
-    assert_eq!(rt; abs(-7), Ok(7));
+    assert!(rt;
+        [
+            add(MOST, 1),
+            sub(LEAST, 1),
+            mul(LEAST, -1),
+            mul(3_037_000_500, 3_037_000_500),
+            neg(LEAST),
+            abs(LEAST)
+        ] == [Err(Overflow); 6]
+    );
+    assert!(rt;
+        [add(MOST, LEAST), sub(-1, LEAST), neg(MOST), abs(-7)]
+            == [Ok(-1), Ok(MOST), Ok(-MOST), Ok(7)]
+    );
 }
+
+// Two numbers, the quotient and the remainder.
+const QUOTIENTS: &[(i64, i64, Result<i64, FaultKind>, Result<i64, FaultKind>)] = &[
+    (7, 2, Ok(3), Ok(1)),
+    (-7, 2, Ok(-3), Ok(-1)),
+    (7, -2, Ok(-3), Ok(1)),
+    (-7, -2, Ok(3), Ok(-1)),
+    (LEAST, -1, Err(Overflow), Ok(0)),
+    (0, 0, Err(ZeroDivisor), Err(ZeroDivisor)),
+    (LEAST, 0, Err(ZeroDivisor), Err(ZeroDivisor)),
+];
 
 #[test]
 fn division_at_the_edges(rt: HostRuntime) {
-    let rows: [(i64, i64, Result<i64, FaultKind>, Result<i64, FaultKind>); 7] = [
-        (7, 2, Ok(3), Ok(1)),
-        (-7, 2, Ok(-3), Ok(-1)),
-        (7, -2, Ok(-3), Ok(1)),
-        (-7, -2, Ok(3), Ok(-1)),
-        (LEAST, -1, Err(Overflow), Ok(0)),
-        (0, 0, Err(ZeroDivisor), Err(ZeroDivisor)),
-        (LEAST, 0, Err(ZeroDivisor), Err(ZeroDivisor)),
-    ];
-    for (a, b, quotient, left) in rows {
-        assert_eq!(rt; div(a, b), quotient, "{a} / {b}");
-        assert_eq!(rt; rem(a, b), left, "{a} % {b}");
+    for (a, b, quotient, left) in QUOTIENTS {
+        assert_eq!(rt; (a, b, div(*a, *b), rem(*a, *b)), (a, b, *quotient, *left));
     }
 }
 
@@ -43,11 +48,10 @@ fn a_total_passes_64_bits_on_its_way(rt: HostRuntime) {
     let mut total = Total::new();
     total.push(MOST);
     total.push(MOST);
-    assert_eq!(rt; total.finish(), Err(Overflow));
+    assert!(rt; total.finish() == Err(Overflow));
     let mut other = Total::new();
     other.push(LEAST);
     other.push(1);
     total.merge(other);
-    assert_eq!(rt; total.finish(), Ok(MOST));
-    assert_eq!(rt; total.count(), 4);
+    assert!(rt; (total.finish(), total.count()) == (Ok(MOST), 4));
 }

@@ -10,7 +10,6 @@ use pooma_stencil::{Body, Stencil};
 use pooma_view::{Slot, View};
 use sqlite_items::Boxed;
 use std::alloc::{AllocError, Global};
-use std::test::Fail;
 
 fn bin(alloc: Global, op: Op, a: Body, b: Body) -> Result<Body, AllocError> {
     Ok(Body::Bin(op, Boxed::new(alloc, a)?, Boxed::new(alloc, b)?))
@@ -30,26 +29,30 @@ fn five_points(alloc: Global) -> Result<Body, AllocError> {
     bin(alloc, Op::Sub, four, middle)
 }
 
-// So many numbers from a first one on.
-fn row(first: i32, last: i32) -> Result<Slot, Fail> {
-    if first < -99 || first > 99 || last < -99 || last > 99 {
-        return Err(Fail::from("a short row"));
+// The numbers from a first one on that go along an axis.
+fn row(first: i32, count: u32) -> Option<Slot> {
+    if first < -99 || first > 99 || count == 0 || count > 99 {
+        return None;
     }
-    Ok(Slot::Along(Strided::of(first, last, 1).ok_or("some numbers")?))
+    let numbers = Strided {
+        first,
+        stride: 1,
+        count,
+    };
+    Some(Slot::Along(numbers))
 }
 
-// The stencil of this body with extents of 1 on each of these axes.
-fn by_one(axes: Cell, body: Body) -> Result<Stencil, Fail> {
-    let extents = match axes.dims() {
-        1 => Cell::of1(1),
-        2 => Cell::of2(1, 1),
-        _ => return Err(Fail::from("one or two axes")),
-    };
-    if body.is_within(&extents, &extents) {
-        Ok(Stencil::new(extents, extents, body))
+// The stencil of this body with extents of 1 on each of its axes, of which there are one or two. None where it goes further.
+fn by_one(dims: usize, body: Body) -> Option<Stencil> {
+    let extents = if dims == 1 {
+        Cell::of1(1)
     } else {
-        Err(Fail::from("offsets of at most 1"))
+        Cell::of2(1, 1)
+    };
+    if !body.is_within(&extents, &extents) {
+        return None;
     }
+    Some(Stencil::new(extents, extents, body))
 }
 
 // The code of the stencil on the view. None where it has no result there.
@@ -112,52 +115,100 @@ fn value_about_a_spike(code: &Code, p: &Cell) -> Option<Result<i64, FaultKind>>
     Some(eval_at(code, &Numbers { numbers: &numbers }, p))
 }
 
-#[test]
-fn five_points_about_a_spike(rt: HostRuntime) -> Result<(), Fail> {
-    let stencil = by_one(Cell::of2(0, 0), five_points(rt.alloc())?)?;
-    let view = View::new(0, &[row(-1, 4)?, row(-1, 4)?]);
-    let code = code_on(rt.alloc(), &stencil, &view)?.ok_or("a result")?;
-    let table = [[0, 1, 0, 0], [1, -4, 1, 0], [0, 1, 0, 0], [0, 0, 0, 0]];
-    for y in 0..4 {
-        for x in 0..4 {
-            let found = value_about_a_spike(&code, &Cell::of2(x as i32, y as i32));
-            assert_eq!(rt; found, Some(Ok(table[y][x])));
+// The code of the five points of a plane of six numbers on each axis.
+fn five_points_code(alloc: Global) -> Result<Option<Code>, AllocError>
+    ensures { IfOk result (λ found. IfSome found (λ code. axes_needed code ≡ 0)) }
+{
+    let (Some(stencil), Some(along)) = (by_one(2, five_points(alloc)?), row(-1, 6)) else {
+        return Ok(None);
+    };
+    code_on(alloc, &stencil, &View::new(0, &[along, along]))
+}
+
+// The positions 0 to 3 on each axis, row by row, and the value there, where the array has 1 at the cell (1,1) and else 0.
+const ABOUT_A_SPIKE: &[(i32, i32, i64)] = &[
+    (0, 0, 0),
+    (1, 0, 1),
+    (2, 0, 0),
+    (3, 0, 0),
+    (0, 1, 1),
+    (1, 1, -4),
+    (2, 1, 1),
+    (3, 1, 0),
+    (0, 2, 0),
+    (1, 2, 1),
+    (2, 2, 0),
+    (3, 2, 0),
+    (0, 3, 0),
+    (1, 3, 0),
+    (2, 3, 0),
+    (3, 3, 0),
+];
+
+// The first of these positions that has another value.
+fn first_other(code: &Code) -> Option<(i32, i32)>
+    requires { axes_needed code.now ≡ 0 }
+{
+    for (x, y, value) in ABOUT_A_SPIKE {
+        if value_about_a_spike(code, &Cell::of2(*x, *y)) != Some(Ok(*value)) {
+            return Some((*x, *y));
         }
     }
-    Ok(())
+    None
 }
 
-// The cells that a stencil of one axis reads at its first position along the third row of an array.
-fn first_cells(alloc: Global, stencil: &Stencil, last: i32) -> Result<Option<(Cell, Cell)>, Fail> {
-    let view = View::new(0, &[Slot::Fixed(3), row(0, last)?]);
-    let Some(code) = code_on(alloc, stencil, &view)? else {
-        return Ok(None);
-    };
-    let first = Cell::of1(0);
-    let [a, b] = code.reads() else {
-        return Ok(None);
-    };
-    match (cell_of(a, &first), cell_of(b, &first)) {
-        (Some(x), Some(y)) => Ok(Some((x, y))),
-        _ => Ok(None),
+// Whether the code is there, and all positions have their values.
+fn is_as_in_the_table(alloc: Global) -> Result<bool, AllocError> {
+    match five_points_code(alloc)? {
+        Some(code) => Ok(first_other(&code).is_none()),
+        None => Ok(false),
     }
 }
 
 #[test]
-fn extents_act_on_the_slots_that_go_along(rt: HostRuntime) -> Result<(), Fail> {
-    let body = bin(
-        rt.alloc(),
+fn five_points_about_a_spike(rt: HostRuntime) {
+    assert!(rt; is_as_in_the_table(rt.alloc()) == Ok(true));
+}
+
+// `@(1) - @(-1)`
+fn difference(alloc: Global) -> Result<Body, AllocError> {
+    bin(
+        alloc,
         Op::Sub,
         Body::At(Cell::of1(1)),
         Body::At(Cell::of1(-1)),
-    )?;
-    let stencil = by_one(Cell::of1(0), body)?;
-    assert_eq!(rt;
-        first_cells(rt.alloc(), &stencil, 7)?,
-        Some((Cell::of2(3, 2), Cell::of2(3, 0)))
-    );
-    assert_eq!(rt; first_cells(rt.alloc(), &stencil, 1)?, None);
-    Ok(())
+    )
+}
+
+// The code of that difference along so many numbers of the third row of an array.
+fn difference_code(alloc: Global, count: u32) -> Result<Option<Code>, AllocError> {
+    let (Some(stencil), Some(along)) = (by_one(1, difference(alloc)?), row(0, count)) else {
+        return Ok(None);
+    };
+    code_on(alloc, &stencil, &View::new(0, &[Slot::Fixed(3), along]))
+}
+
+// The two cells that a code of two reads has at its first position.
+fn cells_at_first(code: &Code) -> Option<(Cell, Cell)> {
+    let first = Cell::of1(0);
+    let [a, b] = code.reads() else {
+        return None;
+    };
+    Some((cell_of(a, &first)?, cell_of(b, &first)?))
+}
+
+// These cells of the difference, if it has a result.
+fn first_cells(alloc: Global, count: u32) -> Result<Option<(Cell, Cell)>, AllocError> {
+    match difference_code(alloc, count)? {
+        Some(code) => Ok(cells_at_first(&code)),
+        None => Ok(None),
+    }
+}
+
+#[test]
+fn extents_act_on_the_slots_that_go_along(rt: HostRuntime) {
+    assert!(rt; first_cells(rt.alloc(), 8) == Ok(Some((Cell::of2(3, 2), Cell::of2(3, 0)))));
+    assert!(rt; first_cells(rt.alloc(), 2) == Ok(None));
 }
 
 // The last position of a stencil's result on so many positions. None where it has no result.
@@ -170,16 +221,21 @@ fn last_position(lower: i32, upper: i32, last: i32) -> Option<i32> {
     Some(result.axis(0).last)
 }
 
+// The extents, the last position, and the last one of the result.
+const SHORTENED: &[(i32, i32, i32, Option<i32>)] = &[
+    (0, 0, 0, Some(0)),
+    (1, 2, 9, Some(6)),
+    (8, 8, 16, Some(0)),
+    (8, 8, 15, None),
+    (0, 1, 0, None),
+];
+
 #[test]
 fn extents_shorten_the_result(rt: HostRuntime) {
-    let rows = [
-        (0, 0, 0, Some(0)),
-        (1, 2, 9, Some(6)),
-        (8, 8, 16, Some(0)),
-        (8, 8, 15, None),
-        (0, 1, 0, None),
-    ];
-    for (lower, upper, last, found) in rows {
-        assert_eq!(rt; last_position(lower, upper, last), found);
+    for (lower, upper, last, found) in SHORTENED {
+        assert_eq!(rt;
+            (lower, upper, last, last_position(*lower, *upper, *last)),
+            (lower, upper, last, *found)
+        );
     }
 }

@@ -10,16 +10,18 @@ use pooma_patch::Patch;
 use pooma_store::Store;
 use std::alloc::{AllocError, Global};
 use std::sync::Arc;
-use std::test::Fail;
 
-// Declares a plain array on this layout, where the store may have one more.
-fn declare(alloc: Global, store: &mut Store, layout: Layout) -> Result<u32, Fail> {
+// Declares a plain array on this layout, where the store may have one more. Whether it did.
+fn declare(alloc: Global, store: &mut Store, layout: Layout) -> Result<bool, AllocError> {
     let total = layout.total();
-    let shape = Shape::of(layout.physical(), total, None).ok_or("a shape")?;
+    let Some(shape) = Shape::of(layout.physical(), total, None) else {
+        return Ok(false);
+    };
     if store.lent() || store.arrays() >= 512 || total.count() > 4_194_304 {
-        return Err(Fail::from("room for an array"));
+        return Ok(false);
     }
-    Ok(store.declare(alloc, shape, layout)?)
+    store.declare(alloc, shape, layout)?;
+    Ok(true)
 }
 
 // The number at the cell, where the array has it and nothing is lent.
@@ -76,93 +78,137 @@ fn put_at(
 }
 
 // Lends the patches, sets a cell of one of them and takes them back, where they are not lent.
-fn change(alloc: Global, store: &mut Store, object: usize, c: Cell, v: i64) -> Result<(), Fail> {
+fn change(
+    alloc: Global,
+    store: &mut Store,
+    object: usize,
+    c: Cell,
+    v: i64,
+) -> Result<(), AllocError> {
     if store.lent() {
-        return Err(Fail::from("patches that are lent"));
+        return Ok(());
     }
     let mut patches = store.lend();
     let done = put_at(alloc, &mut patches, object, c, v);
     store.settle(patches);
-    Ok(done?)
+    done
 }
 
-// A store of one array of ten cells, cut before the numbers 4 and 7.
-fn row(alloc: Global) -> Result<Store, Fail> {
-    let domain = BoxN::of1(Axis { first: 0, last: 9 });
+// The numbers 0 to 9 cut before 4 and 7.
+fn parts(alloc: Global) -> Result<Layout, AllocError> {
     let none = Cell::of1(0);
+    let domain = BoxN::of1(Axis { first: 0, last: 9 });
     let cuts = [[4, 7].to_vec(alloc)?];
-    let layout = Layout::cuts(alloc, domain, &cuts, &none, &none)?;
+    Layout::cuts(alloc, domain, &cuts, &none, &none)
+}
+
+// A store of one array of these ten cells.
+fn row(alloc: Global) -> Result<Store, AllocError> {
     let mut store = Store::new(alloc);
-    declare(alloc, &mut store, layout)?;
+    declare(alloc, &mut store, parts(alloc)?)?;
     Ok(store)
 }
 
-#[test]
-fn one_cell_of_a_row_is_set(rt: HostRuntime) -> Result<(), Fail> {
-    let mut store = row(rt.alloc())?;
-    assert_eq!(rt; store.arrays(), 1);
-    assert_eq!(rt; store.objects(), 3);
+// The first cell of 0 to 9 that does not have its number: 9 at 5, if that was set, and else 0.
+fn first_other(store: &Store, is_set: bool) -> Option<i32> {
     for x in 0..10 {
-        assert_eq!(rt; number(&store, 0, Cell::of1(x)), Some(0));
+        let v = if is_set && x == 5 { 9 } else { 0 };
+        if number(store, 0, Cell::of1(x)) != Some(v) {
+            return Some(x);
+        }
     }
-    change(rt.alloc(), &mut store, 1, Cell::of1(5), 9)?;
-    for x in 0..10 {
-        let set = if x == 5 { 9 } else { 0 };
-        assert_eq!(rt; number(&store, 0, Cell::of1(x)), Some(set));
-    }
-    assert_eq!(rt; number(&store, 0, Cell::of1(10)), None);
-    Ok(())
+    None
 }
 
-// A store of a row and of a square of four patches with a guard layer on each side.
-fn row_and_square(alloc: Global) -> Result<Store, Fail> {
+// The arrays, the objects, and the first cells that do not have their numbers before and after the cell 5 is set, with
+// the cell behind the last.
+fn with_one_set(alloc: Global) -> Result<(u32, u32, [Option<i32>; 2], Option<i64>), AllocError> {
+    let mut store = row(alloc)?;
+    let before = first_other(&store, false);
+    change(alloc, &mut store, 1, Cell::of1(5), 9)?;
+    let others = [before, first_other(&store, true)];
+    let behind = number(&store, 0, Cell::of1(10));
+    Ok((store.arrays(), store.objects(), others, behind))
+}
+
+#[test]
+fn one_cell_of_a_row_is_set(rt: HostRuntime) {
+    assert!(rt; with_one_set(rt.alloc()) == Ok((1, 3, [None, None], None)));
+}
+
+// A square of four patches with a guard layer on each side.
+fn square(alloc: Global) -> Result<Layout, AllocError> {
     let axis = Axis { first: 0, last: 3 };
     let one = Cell::of2(1, 1);
-    let domain = BoxN::of2(axis, axis);
-    let layout = Layout::grid(alloc, domain, &Cell::of2(2, 2), &one, &one)?;
+    Layout::grid(alloc, BoxN::of2(axis, axis), &Cell::of2(2, 2), &one, &one)
+}
+
+// A store of the row and of that square.
+fn row_and_square(alloc: Global) -> Result<Store, AllocError> {
     let mut store = row(alloc)?;
-    declare(alloc, &mut store, layout)?;
+    declare(alloc, &mut store, square(alloc)?)?;
     Ok(store)
 }
 
-#[test]
-fn objects_go_by_arrays(rt: HostRuntime) -> Result<(), Fail> {
-    let store = row_and_square(rt.alloc())?;
-    assert_eq!(rt; store.objects(), 7);
-    let rows = [
-        (0, 0, Some(0)),
-        (0, 2, Some(2)),
-        (0, 3, None),
-        (1, 0, Some(3)),
-        (1, 3, Some(6)),
-        (1, 4, None),
-        (2, 0, None),
-    ];
-    for (array, patch, at) in rows {
-        assert_eq!(rt; object(&store, array, patch), at);
+// An array, a patch, and the object that it is.
+const OBJECTS: &[(u32, usize, Option<u32>)] = &[
+    (0, 0, Some(0)),
+    (0, 2, Some(2)),
+    (0, 3, None),
+    (1, 0, Some(3)),
+    (1, 3, Some(6)),
+    (1, 4, None),
+    (2, 0, None),
+];
+
+// How many objects there are, and the first patch of the table that is another one.
+fn objects(alloc: Global) -> Result<(u32, Option<(u32, usize)>), AllocError> {
+    let store = row_and_square(alloc)?;
+    for (array, patch, at) in OBJECTS {
+        if object(&store, *array, *patch) != *at {
+            return Ok((store.objects(), Some((*array, *patch))));
+        }
     }
-    Ok(())
+    Ok((store.objects(), None))
 }
 
 #[test]
-fn copies_in_guards_are_not_read(rt: HostRuntime) -> Result<(), Fail> {
-    let mut store = row_and_square(rt.alloc())?;
-    // Of each change the object, the cell and the number, and what is read there then.
-    let rows = [
-        (3, 1, 1, 5, Some(5)),
-        (3, 2, 1, 6, Some(0)),
-        (4, 2, 1, 7, Some(7)),
-        (3, -1, -1, 3, Some(3)),
-        (6, 1, 1, 8, Some(5)),
-        (6, 4, 4, 2, Some(2)),
-        (5, 1, 3, 4, Some(4)),
-        (5, 5, 3, 1, None),
-    ];
-    for (object, x, y, v, read) in rows {
-        change(rt.alloc(), &mut store, object, Cell::of2(x, y), v)?;
-        assert_eq!(rt; number(&store, 1, Cell::of2(x, y)), read);
+fn objects_go_by_arrays(rt: HostRuntime) {
+    assert!(rt; objects(rt.alloc()) == Ok((7, None)));
+}
+
+// Of each change the object, the cell and the number, and what is read there then.
+const CHANGES: &[(usize, i32, i32, i64, Option<i64>)] = &[
+    (3, 1, 1, 5, Some(5)),
+    (3, 2, 1, 6, Some(0)),
+    (4, 2, 1, 7, Some(7)),
+    (3, -1, -1, 3, Some(3)),
+    (6, 1, 1, 8, Some(5)),
+    (6, 4, 4, 2, Some(2)),
+    (5, 1, 3, 4, Some(4)),
+    (5, 5, 3, 1, None),
+];
+
+// Makes these changes, and answers the first behind which another number is read.
+fn first_otherwise(alloc: Global, store: &mut Store) -> Result<Option<i64>, AllocError> {
+    for (object, x, y, v, read) in CHANGES {
+        change(alloc, store, *object, Cell::of2(*x, *y), *v)?;
+        if number(store, 1, Cell::of2(*x, *y)) != *read {
+            return Ok(Some(*v));
+        }
     }
-    assert_eq!(rt; number(&store, 1, Cell::of2(0, 0)), Some(0));
-    assert_eq!(rt; number(&store, 0, Cell::of1(5)), Some(0));
-    Ok(())
+    Ok(None)
+}
+
+// That change, and the numbers of two cells that were not set.
+fn changed(alloc: Global) -> Result<(Option<i64>, [Option<i64>; 2]), AllocError> {
+    let mut store = row_and_square(alloc)?;
+    let otherwise = first_otherwise(alloc, &mut store)?;
+    let square = number(&store, 1, Cell::of2(0, 0));
+    Ok((otherwise, [square, number(&store, 0, Cell::of1(5))]))
+}
+
+#[test]
+fn copies_in_guards_are_not_read(rt: HostRuntime) {
+    assert!(rt; changed(rt.alloc()) == Ok((None, [Some(0), Some(0)])));
 }

@@ -2,41 +2,39 @@ ghost use Rattle.std.specs.Prelude.{◌≡◌, ◌^◌, ◌<◌};
 
 use pooma_domain::{Axis, BoxN, Strided};
 use pooma_view::{Slot, View};
-use std::test::Fail;
 
-fn along(first: i32, last: i32, stride: i32) -> Result<Slot, Fail> {
-    if first < -1000
-        || first > 1000
-        || last < -1000
-        || last > 1000
-        || stride < -1000
-        || stride > 1000
-    {
-        return Err(Fail::from("small numbers"));
-    }
-    Ok(Slot::Along(Strided::of(first, last, stride).ok_or("some numbers")?))
+// The numbers 5, 3 and 1 along an axis.
+fn odd() -> Slot {
+    Slot::Along(Strided {
+        first: 5,
+        stride: -2,
+        count: 3,
+    })
+}
+
+// Whether a view of the row 2 lies in `0:9, 0:last`, with its array and its axes.
+fn is_within(last: i32) -> Option<(u32, usize, bool)> {
+    let view = View::new(4, &[Slot::Fixed(2), odd()]);
+    let area = BoxN::of2(Axis::of(0, 9)?, Axis::of(0, last)?);
+    Some((view.array(), view.dims(), view.within(&area)))
 }
 
 #[test]
-fn a_view_names_its_cells(rt: HostRuntime) -> Result<(), Fail> {
-    let view = View::new(4, &[Slot::Fixed(2), along(5, 0, -2)?]);
-    assert_eq!(rt; view.array(), 4);
-    assert_eq!(rt; view.dims(), 2);
-    let inside = Axis::of(0, 9).ok_or("an axis")?;
-    let narrow = Axis::of(0, 4).ok_or("an axis")?;
-    assert!(rt; view.within(&BoxN::of2(inside, inside)));
-    assert!(rt; !view.within(&BoxN::of2(inside, narrow)));
-    Ok(())
+fn a_view_names_its_cells(rt: HostRuntime) {
+    assert!(rt; is_within(9) == Some((4, 2, true)));
+    assert!(rt; is_within(4) == Some((4, 2, false)));
 }
 
 #[test]
-fn views_are_the_same_where_array_and_slots_are(rt: HostRuntime) -> Result<(), Fail> {
-    let slots = [Slot::Fixed(2), along(5, 0, -2)?];
+fn views_are_the_same_where_array_and_slots_are(rt: HostRuntime) {
+    let slots = [Slot::Fixed(2), odd()];
     let view = View::new(4, &slots);
-    assert_eq!(rt; view, View::new(4, &slots));
-    assert!(rt; view != View::new(3, &slots));
-    assert!(rt; view != View::new(4, &[view.slot(1), view.slot(0)]));
-    Ok(())
+    let same = [
+        view == View::new(4, &slots),
+        view == View::new(3, &slots),
+        view == View::new(4, &[view.slot(1), view.slot(0)]),
+    ];
+    assert!(rt; same == [true, false, false]);
 }
 
 // So many numbers from 0 on.
@@ -66,35 +64,60 @@ fn column_overlaps_row(column: i32, row: i32, count: u32) -> Option<bool>
 }
 
 #[test]
-fn a_column_overlaps_a_row_off_the_diagonal(rt: HostRuntime) -> Result<(), Fail> {
-    let table = [
-        (3, 3, 8, false),
-        (3, 2, 4, true),
-        (3, 2, 3, false),
-        (0, 0, 1, false),
+fn a_column_overlaps_a_row_off_the_diagonal(rt: HostRuntime) {
+    let overlaps = [
+        column_overlaps_row(3, 3, 8),
+        column_overlaps_row(3, 2, 4),
+        column_overlaps_row(3, 2, 3),
+        column_overlaps_row(0, 0, 1),
     ];
-    for (column, row, count, is_overlap) in table {
-        assert_eq!(rt; column_overlaps_row(column, row, count), Some(is_overlap));
-    }
-    Ok(())
+    assert!(rt; overlaps == [Some(false), Some(true), Some(false), Some(false)]);
 }
 
+// Whether three slots of so many places make a box of positions. A slot of one place is a number.
+fn are_positions(counts: [u32; 3]) -> Option<bool> {
+    let [a, b, c] = counts;
+    if a == 0 || b == 0 || c == 0 || a > 5_000_000 || b > 5_000_000 || c > 5_000_000 {
+        return None;
+    }
+    let slots = [
+        Slot::Along(up_to(a)),
+        Slot::Along(up_to(b)),
+        Slot::Along(up_to(c)),
+    ];
+    Some(View::new(0, &slots).has_positions())
+}
+
+// So many places on each axis, and whether they make a box.
+const PLACES: &[([u32; 3], bool)] = &[
+    ([8, 1, 4_000_000], true),
+    ([4_000_000, 4_000_000, 1], true),
+    ([4_000_000, 4_000_000, 4_000_000], false),
+    // Three slots of 2^21 places have 2^63 positions, one more than fit.
+    ([1 << 21, 1 << 21, 1 << 21], false),
+    ([1 << 21, (1 << 21) - 1, 1 << 21], true),
+    // An axis ends at 4,000,000.
+    ([4_000_001, 1, 1], true),
+    ([4_000_002, 1, 1], false),
+];
+
 #[test]
-fn positions_make_a_box_where_they_can_be_counted(rt: HostRuntime) -> Result<(), Fail> {
+fn positions_make_a_box_where_they_can_be_counted(rt: HostRuntime) {
+    for (counts, is_box) in PLACES {
+        assert_eq!(rt; (counts, are_positions(*counts)), (counts, Some(*is_box)));
+    }
+}
+
+// Views of one axis, and of two axes beside a number.
+#[test]
+fn slots_with_a_number_are_no_axes(rt: HostRuntime) {
     let row = Slot::Along(up_to(8));
     let long = Slot::Along(up_to(4_000_000));
-    assert!(rt; View::new(0, &[row, Slot::Fixed(3), long]).has_positions());
-    assert!(rt; View::new(0, &[long, long]).has_positions());
-    assert!(rt; !View::new(0, &[long, long, long]).has_positions());
-
-    // Three slots of 2^21 places have 2^63 positions, one more than fit.
-    let power = Slot::Along(up_to(1 << 21));
-    let one_less = Slot::Along(up_to((1 << 21) - 1));
-    assert!(rt; !View::new(0, &[power, power, power]).has_positions());
-    assert!(rt; View::new(0, &[power, one_less, power]).has_positions());
-
-    // An axis ends at 4,000,000.
-    assert!(rt; View::new(0, &[Slot::Along(up_to(4_000_001))]).has_positions());
-    assert!(rt; !View::new(0, &[Slot::Along(up_to(4_000_002))]).has_positions());
-    Ok(())
+    let are_boxes = [
+        View::new(0, &[row, Slot::Fixed(3), long]).has_positions(),
+        View::new(0, &[long, long]).has_positions(),
+        View::new(0, &[Slot::Along(up_to(4_000_001))]).has_positions(),
+        View::new(0, &[Slot::Along(up_to(4_000_002))]).has_positions(),
+    ];
+    assert!(rt; are_boxes == [true, true, true, false]);
 }
