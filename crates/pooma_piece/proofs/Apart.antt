@@ -25,7 +25,7 @@ pub record HasLaws : Type 0 where
   pub members : (box : List Interval) (c : List ℤ) → Contains (cells_of box) c ↔ IsIn box c
   pub once : (box : List Interval) (c : List ℤ) (j k : ℕ) → slice_get (cells_of box) j ≡ Some c → slice_get (cells_of box) k ≡ Some c → j ≡ k
 
-from_take : (k : ℕ) (xs : List (List ℤ)) (j : ℕ) (x : List ℤ) → slice_get (take k xs) j ≡ Some x → (j < k) × (slice_get xs j ≡ Some x)
+pub from_take : (k : ℕ) (xs : List (List ℤ)) (j : ℕ) (x : List ℤ) → slice_get (take k xs) j ≡ Some x → (j < k) × (slice_get xs j ≡ Some x)
 from_take zero [] j x e = absurd (cc)
 from_take zero (y ∷ ys) j x e = absurd (cc)
 from_take (suc k) [] j x e = absurd (cc)
@@ -59,7 +59,7 @@ written_is : (write : Option ℕ) (object : ℕ) → is_written write object ≡
 written_is None object e = absurd (cc)
 written_is (Some o) object e = ap Some ((Decides-eqb o object).0 e)
 
-in_box : HasLaws → (box : List Interval) (j : ℕ) (q : List ℤ) → slice_get (cells_of box) j ≡ Some q → IsIn box q
+pub in_box : HasLaws → (box : List Interval) (j : ℕ) (q : List ℤ) → slice_get (cells_of box) j ≡ Some q → IsIn box q
 in_box laws box j q at = (laws.members box q).0 (j, slice_get_within (cells_of box) j q at, get_or_from_slice_get (cells_of box) j q q at)
 
 -- no cell that is read at the k-th position is one that was set at an earlier one

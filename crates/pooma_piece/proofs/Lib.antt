@@ -1,3 +1,4 @@
+pub mod Fillings
 pub mod Firsts
 pub mod Asked
 pub mod Seen

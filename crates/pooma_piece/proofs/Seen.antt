@@ -25,7 +25,7 @@ use Rattle.pooma_expr.specs.Values.{Contents}
 use Rattle.pooma_piece.specs.declared.source.Source.{Source}
 use Rattle.pooma_piece.specs.declared.source.Source.TheVariants.{Written, Read}
 use Rattle.pooma_piece.specs.declared.task.Task.{Task}
-use Rattle.pooma_piece.specs.declared.task.Task.TheVariants.{Assign, Reduce}
+use Rattle.pooma_piece.specs.declared.task.Task.TheVariants.{Assign, Reduce, Fill}
 use Rattle.pooma_piece.specs.Kept.{sources_of}
 use Rattle.pooma_piece.specs.Lent.{fits, has_cells, is_in, is_written, lent_for, number_in, read_in, same_slot, same_view, seen_by, task_fits}
 use Rattle.pooma_piece.specs.Meaning.{area_of}
@@ -117,7 +117,7 @@ pick-map : {A B : Type 0} (f : A → B) (b : Bool) (w : Option A) (r : List A) (
 pick-map f true w r n = refl
 pick-map f false w r n = slice_get-map f r n
 
-lent_for-map : {A B : Type 0} (f : A → B) (piece : Pieced) (w : Option A) (r : List A) (object : ℕ) → lent_for piece (option_map f w) (map f r) object ≡ option_map f (lent_for piece w r object)
+pub lent_for-map : {A B : Type 0} (f : A → B) (piece : Pieced) (w : Option A) (r : List A) (object : ℕ) → lent_for piece (option_map f w) (map f r) object ≡ option_map f (lent_for piece w r object)
 lent_for-map f piece w r object = pick-map f (is_written piece.write object) w r _
 
 cell_there : (o : Option Numbered) (slots : List Slot) (ps : List (List ℤ)) (j : ℕ) (p : List ℤ) → has_cells (option_map area_of o) slots ps ≡ true → slice_get ps j ≡ Some p → (content : Numbered) × (o ≡ Some content) × IsIn content.area (cell_named slots p)
@@ -160,7 +160,7 @@ pub from_source-of : {A : Type 0} (piece : Pieced) (w : Option A) (r : List A) (
 from_source-of piece w r object = from_source-pick (is_written piece.write object) _ w r
 
 -- each read of a piece that finds its cells can be asked
-pub can_read : (piece : Pieced) (w : Option Numbered) (r : List Numbered) (p : List ℤ) → IsPiece piece → length piece.reads ≡ length (views_of piece.code) → IsIn piece.positions p → CanSee piece w r p → (k : ℕ) → k < length (views_of piece.code) → CanRead (views_of piece.code) (sources_of piece) w r k p
+pub can_read : (piece : Pieced) (w : Option Numbered) (r : List Numbered) (p : List ℤ) → IsPiece piece → length (views_of piece.code) ≤ length piece.reads → IsIn piece.positions p → CanSee piece w r p → (k : ℕ) → k < length (views_of piece.code) → CanRead (views_of piece.code) (sources_of piece) w r k p
 can_read piece w r p valid count inside sees k within =
     let views : List Viewed = views_of piece.code in
     let view : Viewed = get_or views k no_view in
@@ -183,7 +183,7 @@ can_read piece w r p valid count inside sees k within =
     no_view = record { array = 0; slots = [] }
 
 -- what a piece sees is what its reads give
-pub reads_agree : (piece : Pieced) (w : Option Numbered) (r : List Numbered) (has : Contents) (p : List ℤ) → length piece.reads ≡ length (views_of piece.code) → SeesAs piece w r has p → AgreeWith has (views_of piece.code) p (number_read (views_of piece.code) (sources_of piece) w r)
+pub reads_agree : (piece : Pieced) (w : Option Numbered) (r : List Numbered) (has : Contents) (p : List ℤ) → length (views_of piece.code) ≤ length piece.reads → SeesAs piece w r has p → AgreeWith has (views_of piece.code) p (number_read (views_of piece.code) (sources_of piece) w r)
 reads_agree piece w r has p count sees k view vk =
     let views : List Viewed = views_of piece.code in
     let object : ℕ = get_or piece.reads k 0 in
@@ -200,9 +200,10 @@ pub sees_them : (piece : Pieced) (w : Option Numbered) (r : List Numbered) (p : 
 sees_them piece w r p alike k view object vk ok =
     ap (λ (o : ℕ). number_in (lent_for piece w r o) (cell_named view.slots p)) (sym (read_in_is piece k view object alike vk ok))
 
-pub as_many : (task : Task) (code : Expr) (reads : List ℕ) → AreReads task code reads → length reads ≡ length (views_of code)
-as_many (Assign target) code reads h = h
-as_many (Reduce reduction) code reads h = h
+pub as_many : (task : Task) (code : Expr) (reads : List ℕ) → AreReads task code reads → length (views_of code) ≤ length reads
+as_many (Assign target) code reads h = omega (arith, h)
+as_many (Reduce reduction) code reads h = omega (arith, h)
+as_many (Fill shape slab array) code reads h = let none : length (views_of code) ≡ 0 = ap length h.0 in omega (arith, none)
 
 -- the same of a code, views and sources that are those of the piece
 pub can_read_as : (piece : Pieced) (w : Option Numbered) (r : List Numbered) (p : List ℤ) → IsPiece piece → IsIn piece.positions p → CanSee piece w r p → (code : Expr) → code ≡ piece.code → (views : List Viewed) → views ≡ views_of code → (sources : List Source) → sources ≡ sources_of piece → (k : ℕ) → k < length (views_of code) → CanRead views sources w r k p

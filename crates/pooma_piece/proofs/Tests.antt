@@ -34,6 +34,12 @@ not_in area c none = by_test (is_in area c) refl
     by_test true e = absurd (none (is_in_is area c e))
     by_test false e = e
 
+-- what is found at the k-th source is what is lent for the k-th object
+pub source_lent : {A : Type 0} (piece : Pieced) (w : Option A) (r : List A) (k : ℕ) (object : ℕ) (source : Source) → slice_get piece.reads k ≡ Some object → slice_get (sources_of piece) k ≡ Some source → from_source source w r ≡ lent_for piece w r object
+source_lent piece w r k object source ok sk =
+    let is : Some (source_of piece.write (requests_of piece) object) ≡ Some source = sym (slice_get-map (source_of piece.write (requests_of piece)) piece.reads k ∙ ap (option_map (source_of piece.write (requests_of piece))) ok) ∙ sk in
+    ap (λ (s : Source). from_source s w r) (sym (same_Some _ source is)) ∙ from_source-of piece w r object
+
 -- what is found at the source of the k-th read is what is lent for its view
 pub source_found : {A : Type 0} (piece : Pieced) (w : Option A) (r : List A) (k : ℕ) (view : Viewed) (source : Source) → IsPiece piece → slice_get (views_of piece.code) k ≡ Some view → slice_get (sources_of piece) k ≡ Some source → from_source source w r ≡ lent_for piece w r (read_in piece view)
 source_found piece w r k view source valid vk sk = by_object (slice_get piece.reads k) refl

@@ -1,17 +1,19 @@
 -- What a piece makes of the patches that are lent to it, and what it answers. All values are taken over the old contents.
-use Rattle.std.specs.Prelude.{ℤ, is_err, Ok, Err, Option, None, Some, List, [], ◌∷◌, length, count_by}
+use Rattle.std.specs.Prelude.{ℤ, is_err, Ok, Err, Option, None, Some, List, [], ◌∷◌, length, map, count_by}
 use Rattle.std.specs.List.{before_first, filter_map}
 use Rattle.pooma_domain.specs.Cells.{cells_of}
 use Rattle.pooma_view.specs.declared.slots.Slot.{Slot}
 use Rattle.pooma_view.specs.Slots.{cell_named}
 use Rattle.pooma_field.specs.Numbered.{Numbered, Change, with_changes}
+use Rattle.pooma_field.specs.ShapeOf.{shape_of}
 use Rattle.pooma_expr.specs.declared.reduction.Reduction.{Reduction}
 use Rattle.pooma_expr.specs.Reductions.{Kept, is_set, join_all, join_of, sum_of}
 use Rattle.pooma_expr.specs.Values.{Checked, value}
 use Rattle.pooma_piece.specs.declared.outcome.Outcome.{Outcome}
 use Rattle.pooma_piece.specs.declared.outcome.Outcome.TheVariants.{Done, Value, Fault}
 use Rattle.pooma_piece.specs.declared.task.Task.{Task}
-use Rattle.pooma_piece.specs.declared.task.Task.TheVariants.{Assign, Reduce}
+use Rattle.pooma_piece.specs.declared.task.Task.TheVariants.{Assign, Reduce, Fill}
+use Rattle.pooma_piece.specs.Fills.{fill_change}
 use Rattle.pooma_piece.specs.Lent.{seen_by}
 use Rattle.pooma_piece.specs.Pieces.{Pieced}
 
@@ -63,6 +65,8 @@ abbrev pub content_by : Task → Pieced → Numbered → List Numbered → Numbe
 content_by (Assign target) piece old reads =
     with_changes old (changes_over target.slots (value_at piece (Some old) reads) (before_fault (value_at piece (Some old) reads) (cells_of piece.positions)))
 content_by (Reduce reduction) piece old reads = old
+content_by (Fill shape slab array) piece old reads =
+    with_changes old (map (fill_change (shape_of shape) slab piece (Some old) reads) (cells_of piece.positions))
 
 -- what the piece answers
 abbrev pub answer_by : Task → Pieced → Option Numbered → List Numbered → Outcome
@@ -70,3 +74,4 @@ answer_by (Assign target) piece written reads = first_fault_or (value_at piece w
 answer_by (Reduce reduction) piece written reads =
     first_fault_or (value_at piece written reads) (cells_of piece.positions)
     (Value (kept_of reduction (numbers_over (value_at piece written reads) (cells_of piece.positions))))
+answer_by (Fill shape slab array) piece written reads = Done

@@ -8,12 +8,16 @@ use Rattle.pooma_view.specs.declared.slots.Slot.{Slot}
 use Rattle.pooma_view.specs.declared.slots.Slot.TheVariants.{Fixed, Along}
 use Rattle.pooma_view.specs.Slots.{cell_named}
 use Rattle.pooma_view.specs.Views.{Viewed}
+use Rattle.pooma_field.specs.declared.shapes.Slab.{Slab}
 use Rattle.pooma_field.specs.Numbered.{Numbered, number_at}
+use Rattle.pooma_field.specs.Shapes.{Shaped}
+use Rattle.pooma_field.specs.ShapeOf.{shape_of}
+use Rattle.pooma_field.specs.Slabs.{cell_sources}
 use Rattle.pooma_expr.specs.Trees.{views_of}
 use Rattle.pooma_expr.specs.Values.{Contents}
 use Rattle.pooma_machine.specs.Values.{read_objects}
 use Rattle.pooma_piece.specs.declared.task.Task.{Task}
-use Rattle.pooma_piece.specs.declared.task.Task.TheVariants.{Assign, Reduce}
+use Rattle.pooma_piece.specs.declared.task.Task.TheVariants.{Assign, Reduce, Fill}
 use Rattle.pooma_piece.specs.Pieces.{Pieced, requests_of}
 
 -- whether two slots say the same of their axes
@@ -66,10 +70,30 @@ abbrev pub has_cells : Option (List Interval) → List Slot → List (List ℤ) 
 has_cells None slots positions = false
 has_cells (Some area) slots positions = list_all (λ p. is_in area (cell_named slots p)) positions
 
--- whether each cell that the task sets lies in the area of the patch that is written
+-- whether there is an area, and it has each of these cells
+abbrev pub has_all : Option (List Interval) → List (List ℤ) → Bool
+has_all None cells = false
+has_all (Some area) cells = list_all (is_in area) cells
+
+-- whether there is an area, and it has this cell
+abbrev pub has_one : Option (List Interval) → List ℤ → Bool
+has_one None c = false
+has_one (Some area) c = is_in area c
+
+-- whether each of these cells lies in the area of the patch of the object that is named for it
+abbrev pub have_sources : Pieced → Option (List Interval) → List (List Interval) → List ℕ → List (List ℤ) → Bool
+have_sources piece written reads [] cells = true
+have_sources piece written reads (object ∷ objects) [] = true
+have_sources piece written reads (object ∷ objects) (c ∷ cells) =
+    has_one (lent_for piece written reads object) c && have_sources piece written reads objects cells
+
+-- whether each cell that the task sets lies in the area of the patch that is written, and each source of a fill in that of its own
 abbrev pub task_fits : Task → Pieced → Option (List Interval) → List (List Interval) → Bool
 task_fits (Assign target) piece written reads = has_cells written target.slots (cells_of piece.positions)
 task_fits (Reduce reduction) piece written reads = true
+task_fits (Fill shape slab array) piece written reads =
+    has_all written (cells_of piece.positions)
+    && list_all (λ c. have_sources piece written reads piece.reads (cell_sources (shape_of shape) slab c)) (cells_of piece.positions)
 
 -- whether each cell that the piece reads or sets lies in the area of the patch in which it does
 abbrev pub fits : Pieced → Option (List Interval) → List (List Interval) → Bool
@@ -82,12 +106,30 @@ abbrev pub HasCells : Option (List Interval) → Viewed → List Interval → Ty
 HasCells None view positions = ⊥
 HasCells (Some area) view positions = (p : List ℤ) → IsIn positions p → IsIn area (cell_named view.slots p)
 
--- each cell that the task sets lies in the area of the patch that is written
-abbrev pub SetsIn : Task → Pieced → Option (List Interval) → Type 0
-SetsIn (Assign target) piece written = HasCells written target piece.positions
-SetsIn (Reduce reduction) piece written = Unit {0}
+-- there is an area, and it has the cell
+abbrev pub HasCell : Option (List Interval) → List ℤ → Type 0
+HasCell None c = ⊥
+HasCell (Some area) c = IsIn area c
+
+-- each of these cells lies in the area of the patch of the object that is named for it
+abbrev pub HaveSources : Pieced → Option (List Interval) → List (List Interval) → List (List ℤ) → Type 0
+HaveSources piece written reads cells =
+    (k : ℕ) (object : ℕ) (c : List ℤ) → slice_get piece.reads k ≡ Some object → slice_get cells k ≡ Some c
+    → HasCell (lent_for piece written reads object) c
+
+-- there is an area, it has each cell that a fill sets, and each source lies in the area of its own patch
+abbrev pub FillsIn : Shaped → Slab → Pieced → Option (List Interval) → List (List Interval) → Type 0
+FillsIn shape slab piece None reads = ⊥
+FillsIn shape slab piece (Some area) reads =
+    (c : List ℤ) → IsIn piece.positions c → IsIn area c × HaveSources piece (Some area) reads (cell_sources shape slab c)
+
+-- each cell that the task sets lies in the area of the patch that is written, and each source of a fill in that of its own
+abbrev pub SetsIn : Task → Pieced → Option (List Interval) → List (List Interval) → Type 0
+SetsIn (Assign target) piece written reads = HasCells written target piece.positions
+SetsIn (Reduce reduction) piece written reads = Unit {0}
+SetsIn (Fill shape slab array) piece written reads = FillsIn (shape_of shape) slab piece written reads
 
 -- what the test of fit says
 pub record IsFitting (piece : Pieced) (written : Option (List Interval)) (reads : List (List Interval)) : Type 0 where
   pub read_there : (view : Viewed) → Contains (views_of piece.code) view → HasCells (lent_for piece written reads (read_in piece view)) view piece.positions
-  pub set_there : SetsIn piece.task piece written
+  pub set_there : SetsIn piece.task piece written reads

@@ -61,3 +61,15 @@ abbrev pub SeesAs : Pieced → Option Numbered → List Numbered → Contents �
 SeesAs piece written reads has p =
     (k : ℕ) (view : Viewed) (object : ℕ) → slice_get (views_of piece.code) k ≡ Some view → slice_get piece.reads k ≡ Some object
     → number_in (lent_for piece written reads object) (cell_named view.slots p) ≡ has view (cell_named view.slots p)
+
+-- what is found at the source has the cell
+pub record HasCellAt (source : Source) (written : Option Numbered) (reads : List Numbered) (c : List ℤ) : Type 0 where
+  pub content : Numbered
+  pub lent : from_source source written reads ≡ Some content
+  pub inside : IsIn content.area c
+
+-- each of these cells is in the content in which it is read
+abbrev pub FindsSources : Pieced → Option Numbered → List Numbered → List (List ℤ) → Type 0
+FindsSources piece written reads cells =
+    (k : ℕ) (object : ℕ) (c : List ℤ) → slice_get piece.reads k ≡ Some object → slice_get cells k ≡ Some c
+    → HasCellOf piece written reads object c

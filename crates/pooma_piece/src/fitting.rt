@@ -1,12 +1,15 @@
 //! The test of what a piece asks of the patches that are lent to it.
 ghost use Rattle.std.specs.Prelude.{◌≡◌, ◌<◌, ℕ, Some, option_map, map, length, slice_get};
+ghost use Rattle.std.specs.List.{list_all};
 ghost use Rattle.std.specs.Option.{option_copied};
-ghost use Rattle.pooma_domain.specs.Cells.{cells_of};
+ghost use Rattle.pooma_domain.specs.Cells.{cells_of, IsIn};
+ghost use Rattle.pooma_field.specs.ShapeOf.{shape_of};
+ghost use Rattle.pooma_field.specs.Slabs.{cell_sources};
 ghost use Rattle.pooma_view.specs.Views.{Viewed};
 ghost use Rattle.pooma_expr.specs.Trees.{views_of};
 ghost use Rattle.pooma_machine.specs.Slots.{contents};
 ghost use Rattle.pooma_piece.specs.Kept.{sources_of};
-ghost use Rattle.pooma_piece.specs.Lent.{fits, has_cells, lent_for, read_in};
+ghost use Rattle.pooma_piece.specs.Lent.{fits, has_all, has_cells, has_one, have_sources, is_in, lent_for, read_in};
 ghost use Rattle.pooma_piece.specs.Meaning.{area_of, content_of};
 ghost use Rattle.pooma_piece.specs.Pieces.{HasPositions};
 ghost use Rattle.pooma_piece.specs.Sources.{from_source};
@@ -14,7 +17,8 @@ ghost use Rattle.pooma_piece.specs.Sources.{from_source};
 use crate::piece::Piece;
 use crate::source::Source;
 use crate::task::Task;
-use pooma_domain::BoxN;
+use pooma_domain::{BoxN, Cell};
+use pooma_field::{Shape, Slab};
 use pooma_patch::Patch;
 use pooma_view::View;
 use std::sync::Arc;
@@ -60,8 +64,8 @@ fn view_at(piece: &Piece, read: usize) -> &View
     &piece.code().reads()[read]
 }
 
-// Where the patch of a read is found.
-fn source_at(piece: &Piece, read: usize) -> Source
+/// Where the patch of a read, or of a fill's source, is found.
+pub(crate) fn source_at(piece: &Piece, read: usize) -> Source
     requires { read < length piece.now.reads }
     ensures { slice_get (sources_of piece.now) read ≡ Some result }
 {
@@ -83,6 +87,93 @@ fn finds(piece: &Piece, read: usize, write: Option<&Patch>, reads: &[Arc<Patch>]
     }
 }
 
+// Whether the area has each of the cells.
+fn has_each(area: &BoxN, cells: &BoxN) -> bool
+    ensures { result ≡ list_all (is_in area.now) (cells_of cells.now) }
+{
+    for k in 0..cells.count() {
+        if !area.contains(&cells.cell_at(k)) {
+            return false;
+        }
+    }
+    true
+}
+
+// Whether there is an area, and it has each of the cells.
+fn has_all(area: Option<BoxN>, cells: &BoxN) -> bool
+    ensures { result ≡ has_all area (cells_of cells.now) }
+{
+    match area {
+        Some(given) => has_each(&given, cells),
+        None => false,
+    }
+}
+
+// Whether the patch in which the sources at this place are read has this cell.
+fn has_source(
+    piece: &Piece,
+    place: usize,
+    s: &Cell,
+    write: Option<&Patch>,
+    reads: &[Arc<Patch>],
+) -> bool
+    requires { place < length piece.now.reads }
+    ensures { (object : ℕ) → slice_get piece.now.reads place ≡ Some object
+        → result ≡ has_one (lent_for piece.now (option_map area_of (option_map content_of (option_copied write.entry))) (map area_of (contents content_of reads.now)) object) s.now }
+{
+    match area_at(source_at(piece, place), write, reads) {
+        Some(area) => area.contains(s),
+        None => false,
+    }
+}
+
+// Whether the patches in which the sources of a cell are read have them.
+fn has_sources(
+    piece: &Piece,
+    shape: &Shape,
+    slab: &Slab,
+    array: u32,
+    c: &Cell,
+    write: Option<&Patch>,
+    reads: &[Arc<Patch>],
+) -> bool
+    requires task { piece.now.task ≡ Task.Fill shape.now slab.now array }
+    requires inside { IsIn piece.now.positions c.now }
+    ensures { result ≡ have_sources piece.now (option_map area_of (option_map content_of (option_copied write.entry))) (map area_of (contents content_of reads.now)) piece.now.reads (cell_sources (shape_of shape.now) slab.now c.now) }
+{
+    // For what it promises: there is an object for each source.
+    let _code = piece.code();
+    for place in 0..slab.sources() {
+        let s = slab.source_at(shape, c, place);
+        if !has_source(piece, place, &s, write, reads) {
+            return false;
+        }
+    }
+    true
+}
+
+// The same for each cell that a fill sets.
+fn all_have_sources(
+    piece: &Piece,
+    shape: &Shape,
+    slab: &Slab,
+    array: u32,
+    write: Option<&Patch>,
+    reads: &[Arc<Patch>],
+) -> bool
+    requires { piece.now.task ≡ Task.Fill shape.now slab.now array }
+    ensures { result ≡ list_all (λ c. have_sources piece.now (option_map area_of (option_map content_of (option_copied write.entry))) (map area_of (contents content_of reads.now)) piece.now.reads (cell_sources (shape_of shape.now) slab.now c)) (cells_of piece.now.positions) }
+{
+    let positions = piece.positions();
+    for k in 0..positions.count() {
+        let c = positions.cell_at(k);
+        if !has_sources(piece, shape, slab, array, &c, write, reads) {
+            return false;
+        }
+    }
+    true
+}
+
 impl Piece {
     /// Whether the piece fits the patches that are lent to it, in the order of its requests: whether each cell that it reads
     /// or sets lies in the area of the patch in which it does. `run_piece` asks for that. The test looks at each of these cells.
@@ -100,6 +191,10 @@ impl Piece {
                 None => false,
             },
             Task::Reduce { reduction: _ } => true,
+            Task::Fill { shape, slab, array } => {
+                has_all(area_at(Source::Written, write, reads), &self.positions())
+                    && all_have_sources(self, &shape, &slab, array, write, reads)
+            }
         }
     }
 }

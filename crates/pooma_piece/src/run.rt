@@ -8,6 +8,7 @@ ghost use Rattle.pooma_piece.specs.Effects.{answer_by, content_by};
 ghost use Rattle.pooma_piece.specs.Lent.{fits};
 ghost use Rattle.pooma_piece.specs.Meaning.{area_of, content_of, pieces};
 
+use crate::fill::fill;
 use crate::lent::value_at;
 use crate::outcome::Outcome;
 use crate::piece::Piece;
@@ -86,6 +87,7 @@ pub(crate) fn write_with(piece: &Piece, patch: &mut Patch, reads: &[Arc<Patch>])
     match *piece.task() {
         Task::Assign { target } => assign(piece, &target, patch, reads),
         Task::Reduce { reduction } => reduce(piece, reduction, Some(&*patch), reads),
+        Task::Fill { shape, slab, array } => fill(piece, &shape, &slab, array, patch, reads),
     }
 }
 
@@ -96,13 +98,14 @@ pub(crate) fn read_with(piece: &Piece, reads: &[Arc<Patch>]) -> Outcome
 {
     match *piece.task() {
         Task::Assign { target: _ } => unreachable!(),
+        Task::Fill { .. } => unreachable!(),
         Task::Reduce { reduction } => reduce(piece, reduction, None, reads),
     }
 }
 
 /// Does a piece on the patches of its objects, which are lent in the order of its requests: the one that it writes, which is
 /// not kept as one, and those that it reads. The piece fits their areas. It goes through the positions in order, up to the
-/// first whose value is a fault, and does what is to be done at those before it. It takes no memory.
+/// first whose value is a fault, and does what is to be done at those before it; a fill has no fault. It takes no memory.
 pub fn run_piece(piece: &Piece, write: Option<&mut Patch>, reads: &[Arc<Patch>]) -> Outcome
     requires fits { FitsLent pieces piece.now (contents_of content_of (option_copied_mut write) reads.now) }
     requires writable { IfSome (option_copied_mut write) (λ patch. patch.one ≡ false) }

@@ -1,13 +1,25 @@
 //! What a piece does.
 
 use pooma_expr::Reduction;
+use pooma_field::{Shape, Slab};
 use pooma_view::View;
 
-/// What a piece does with the value at each of its positions.
+/// What a piece does at each of its positions, with the value that its code has there.
 #[derive(Clone, Copy, Debug)]
 pub enum Task {
     /// Sets the cells that this view names at the positions.
-    Assign { target: View },
+    Assign {
+        target: View,
+    },
     /// Makes of the numbers a part of a reduction.
-    Reduce { reduction: Reduction },
+    Reduce {
+        reduction: Reduction,
+    },
+    /// Sets cells of a slab of the array of this number, which is a field of this shape: its positions are these cells. Each
+    /// gets what the slab's updater makes of the numbers at the cell's sources; the piece's code has no views.
+    Fill {
+        shape: Shape,
+        slab: Slab,
+        array: u32,
+    },
 }
