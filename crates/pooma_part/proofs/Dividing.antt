@@ -148,7 +148,7 @@ lies_in (line ∷ lines) box valid m =
       high = ((let a = within.0 in let b = within.1 in omega (arith, ints, a, b)), within.2, rest.high);
     })
 
-part_is_box : (lines : List CutLine) (box : List Interval) → AreCutLines lines → Member (boxes_of (map parts_in lines)) box → IsBox box
+pub part_is_box : (lines : List CutLine) (box : List Interval) → AreCutLines lines → Member (boxes_of (map parts_in lines)) box → IsBox box
 part_is_box lines box valid m =
     let lies = lies_in lines box valid.each m in
     box_within box (wholes lines) valid.box lies.ordered lies.low lies.high

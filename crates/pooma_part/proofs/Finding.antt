@@ -83,7 +83,7 @@ some_comes views n axis k =
           of_any (Comes n axis k) views from.0 from.1 (subst (λ o. ChangesAt o axis k) (sym from.2) (h.0, some.2)),
     )
 
-inner_counted : (axis : Interval) (k : ℤ) → axis.first ≤ℤ axis.last → Member (counting (axis.first +ℤ pos 1) (axis_length axis - 1)) k ↔ IsInner axis k
+pub inner_counted : (axis : Interval) (k : ℤ) → axis.first ≤ℤ axis.last → Member (counting (axis.first +ℤ pos 1) (axis_length axis - 1)) k ↔ IsInner axis k
 inner_counted axis k ordered =
     let long : pos (axis_length axis) ≡ (axis.last -ℤ axis.first) +ℤ pos 1 = length_of_interval axis ordered in
     let range = counted_member (axis.first +ℤ pos 1) (axis_length axis - 1) k in

@@ -1,0 +1,13 @@
+pub mod Agreeing
+pub mod Boxes
+pub mod Ending
+pub mod Faulting
+pub mod Fitting
+pub mod Gathering
+pub mod Lending
+pub mod Owning
+pub mod Piecing
+pub mod Placing
+pub mod Seeing
+pub mod Turning
+pub mod Walking

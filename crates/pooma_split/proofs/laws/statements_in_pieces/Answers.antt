@@ -1,0 +1,11 @@
+use Rattle.pooma_split.proofs.Ending.{assign_comes}
+use Rattle.pooma_split.proofs.Gathering.{reduce_gathers}
+use Rattle.pooma_split.proofs.laws.statements_in_pieces.Goals as goal
+
+pub returns : goal.returns
+returns c = record {
+  assigns = λ declared objects world number target value mask fit standing full.
+      assign_comes c.gathered.ensures declared number target value mask world fit objects standing full;
+  reduces = λ declared objects world number scalar reduction positions value fit standing.
+      reduce_gathers c.gathered.ensures declared number scalar reduction positions value world fit objects standing;
+}

@@ -1,0 +1,12 @@
+//! Statements cut into pieces: one for each part of a statement's positions, over the patches that own its cells.
+#![tactic(auto)]
+
+mod action;
+mod cutting;
+mod laws;
+mod owners;
+mod splitting;
+mod whole;
+
+pub use action::pieces;
+pub use laws::{pieces_of_statements, statements_in_pieces};
