@@ -10,5 +10,6 @@ mod Parts
 mod Places
 mod Readings
 mod Reductions
+mod SomeReading
 mod Trees
 mod Turns

@@ -18,5 +18,5 @@ pub use error::LineError;
 pub use form::{
     RawAssign, RawCutting, RawExpr, RawLine, RawList, RawOp, RawSub, RawView, Updater4,
 };
-pub use law::one_form;
+pub use law::{one_form, some_reading};
 pub use parse::parse_line;
