@@ -14,7 +14,7 @@ near_axis axis h = record { ordered = h.ordered; low = omega (arith, ints, h.low
 near_length : (axis : Interval) → IsNear axis → axis_length axis ≤ 2000001
 near_length axis h = omega (arith, ints, length_of_some axis.first axis.last h.ordered, h.low, h.high)
 
-product_le : (a b m n : ℕ) → a ≤ m → b ≤ n → a * b ≤ m * n
+pub product_le : (a b m n : ℕ) → a ≤ m → b ≤ n → a * b ≤ m * n
 product_le a b m n h k = omega (arith, mul-le-mul_right b h, mul-le-mul_left m k)
 
 module _ (counted : (axis : Interval) (axes : List Interval) → length (cells_of (axis ∷ axes)) ≡ axis_length axis * length (cells_of axes)) where

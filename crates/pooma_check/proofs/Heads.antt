@@ -1,10 +1,10 @@
 -- A list by its first entry and the others, as the code takes it apart.
-use Rattle.std.proofs.Common.{◌≡◌, ℕ, zero, suc, ◌+◌, ◌-◌, ◌<◌, ◌≤◌, Bool, false, true≢false, ℤ, pos, ◌<ℤ◌, List, [], ◌∷◌, length, take, drop, Option, Some, None, sym, ap, subst, ◌⊎◌, inl, inr, arith}
+use Rattle.std.proofs.Common.{◌≡◌, ℕ, zero, suc, ◌+◌, ◌-◌, ◌<◌, ◌≤◌, Bool, false, true≢false, ℤ, pos, ◌<ℤ◌, List, [], ◌∷◌, ◌++◌, length, take, drop, Option, Some, None, sym, ap, subst, ◌∙◌, ◌⊎◌, inl, inr, arith}
 use Rattle.std.proofs.lemmas.Int.{ints}
 use Rattle.std.proofs.lemmas.List.{get_or_default, take_rest}
 use Rattle.std.proofs.lemmas.List.Elements.{All-cons, All-head, All-tail}
 use Rattle.std.specs.List.{cons_option, filter_map}
-use Rattle.std.specs.Prelude.{◌↔◌, All, IfSome, IsTrue, map, slice_index_or}
+use Rattle.std.specs.Prelude.{◌↔◌, All, IfSome, IsTrue, flat_map, map, slice_index_or}
 
 -- what is left behind the first entry
 abbrev pub others : {A : Type 0} → List A → List A
@@ -48,6 +48,20 @@ module _ {A X : Type 0} (P : X → Type 0) where
         λ all. let k : All P (cons_option one (filter_map f (others l))) = subst (All P) is all in
             both.1 (g.1 (first_of_option P one (filter_map f (others l)) k), h.1 (rest_of_option P one (filter_map f (others l)) k)),
       )
+
+-- the same of entries that are not copied
+pub all_by_head : {X : Type 0} (P : X → Type 0) (l : List X) (x : X) (a b r : Bool) → 1 ≤ length l → x ≡ slice_index_or l 0 x → (IsTrue a ↔ P x)
+    → (IsTrue b ↔ All P (others l)) → (IsTrue r ↔ (IsTrue a × IsTrue b)) → IsTrue r ↔ All P l
+all_by_head P l x a b r some is g h both =
+    let whole : l ≡ x ∷ others l = split l x some ∙ ap (λ y. y ∷ others l) (sym is) in (
+      λ t. subst (All P) (sym whole) (All-cons P x (others l) (g.0 (both.0 t).0) (h.0 (both.0 t).1)),
+      λ all. let one : All P (x ∷ others l) = subst (All P) whole all in both.1 (g.1 (All-head P x (others l) one), h.1 (All-tail P x (others l) one)),
+    )
+
+-- what a list gives is what its first entry and the others give
+pub flat_by_head : {X Y : Type 0} (f : X → List Y) (l : List X) (x : X) → 1 ≤ length l → x ≡ slice_index_or l 0 x
+    → flat_map f l ≡ f x ++ flat_map f (others l)
+flat_by_head f l x some is = ap (flat_map f) (split l x some) ∙ ap (λ y. f y ++ flat_map f (others l)) (sym is)
 
 -- what holds of each holds of the others, and of the first
 pub all_others : {A X : Type 0} (P : X → Type 0) (f : A → X) (l : List A) (d : A) → 1 ≤ length l → All P (map f l) → All P (map f (others l))

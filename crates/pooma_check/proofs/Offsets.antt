@@ -15,11 +15,11 @@ pub offsets-Where : (c a b : RawExpr) → offsets_in (Where c a b) ≡ offsets_i
 offsets-Where c a b = ap offsets_in (sym (rolls-Where c a b)) ∙ fold-roll-RawExpr (List (List ℤ)) offsets_by (RawExpr-F.Where c a b)
 
 module _ {X : Type 0} (P : X → Type 0) where
-  front_of_all : (xs ys : List X) → All P (xs ++ ys) → All P xs
+  pub front_of_all : (xs ys : List X) → All P (xs ++ ys) → All P xs
   front_of_all [] ys h = λ k d below. absurd (omega arith)
   front_of_all (x ∷ xs) ys h = All-cons P x xs (All-head P x (xs ++ ys) h) (front_of_all xs ys (All-tail P x (xs ++ ys) h))
 
-  back_of_all : (xs ys : List X) → All P (xs ++ ys) → All P ys
+  pub back_of_all : (xs ys : List X) → All P (xs ++ ys) → All P ys
   back_of_all [] ys h = h
   back_of_all (x ∷ xs) ys h = back_of_all xs ys (All-tail P x (xs ++ ys) h)
 

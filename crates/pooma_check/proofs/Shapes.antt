@@ -1,12 +1,14 @@
 -- The shape of an array over a layout.
-use Rattle.std.proofs.Common.{◌≡◌, ℕ, zero, suc, List, [], ◌∷◌, length, Option, Some, refl, ap, arith}
+use Rattle.std.proofs.Common.{◌≡◌, ℕ, zero, suc, ◌*◌, List, [], ◌∷◌, length, Option, Some, refl, ap, arith}
 use Rattle.std.proofs.lemmas.Int.{ints}
 use Rattle.std.proofs.lemmas.List.Elements.{All-head, All-tail}
 use Rattle.std.specs.Option.{ForSome}
 use Rattle.std.specs.Prelude.{All, slice_get}
 use Rattle.pooma_domain.specs.Cells.{Interval}
+use Rattle.pooma_field.specs.Faces.{by_axis}
 use Rattle.pooma_field.specs.Shapes.{IsAround, IsShape}
 use Rattle.pooma_field.specs.declared.faces.Ends.{Ends}
+use Rattle.pooma_field.specs.declared.updaters.Updater.{Updater}
 use Rattle.pooma_layout.specs.Axes.{CutAxis, IsCutAxis, total_axis}
 use Rattle.pooma_layout.specs.Patches.{physical_of, total_of}
 use Rattle.pooma_check.specs.Layouts.{shape_on}
@@ -36,3 +38,10 @@ around_each (axis ∷ layout) valid (suc n) p t is are = around_each layout (All
 pub shape_over : (layout : List CutAxis) (faces : Option (List Ends)) → All IsCutAxis layout
     → ForSome faces (λ given. length given ≡ length (physical_of layout)) → IsShape (shape_on layout faces)
 shape_over layout faces valid faced = record { same_dims = as_long layout; around = around_each layout valid; faced = faced }
+
+-- two updaters for each axis
+pub by_axis_length : (updaters : List Updater) (n : ℕ) → length updaters ≡ 2 * n → length (by_axis updaters) ≡ n
+by_axis_length [] n is = omega (arith, is)
+by_axis_length (low ∷ []) n is = absurd (omega (arith, is))
+by_axis_length (low ∷ high ∷ updaters) zero is = absurd (omega (arith, is))
+by_axis_length (low ∷ high ∷ updaters) (suc n) is = ap (λ k. suc k) (by_axis_length updaters n (omega (arith, is)))

@@ -16,7 +16,7 @@ use Rattle.pooma_view.specs.declared.slots.Slot.TheVariants.{Fixed, Along}
 use Rattle.pooma_parse.specs.declared.form.RawSub.{RawSub}
 use Rattle.pooma_parse.specs.declared.form.RawSub.TheVariants.{At, Range}
 use Rattle.pooma_view.specs.Restricted.{IsStrided, strided, strided_or_not}
-use Rattle.pooma_check.specs.Ends.{EndsOn, IsOn}
+use Rattle.pooma_check.specs.Ends.{EndsOn, IsOn, IsShort}
 use Rattle.pooma_check.specs.Views.{along, along_if, count_to, places_of, places_to, slot_of}
 use Rattle.pooma_check.proofs.Ranges.{down_by, numbers_of_range, steps_within, up_by}
 
@@ -46,11 +46,6 @@ range_is_strided first last (negsuc m) f g some =
     let h = (numbers_of_range first last (negsuc m) (n - 1)).0 (omega arith) in
     let down : last ≤ℤ (first +ℤ negsuc m *ℤ pos (n - 1)) = h.1.1 (omega (arith, ints)) in
     (h.0, some, omega (arith, ints, f, g, down, down_by m (n - 1)))
-
--- what a SUB takes is of 32 bits
-abbrev pub IsShort : RawSub → Type 0
-IsShort (At n) = FitsSigned w32 n
-IsShort (Range first last stride) = FitsSigned w32 first × FitsSigned w32 last
 
 -- where each range has a number, the places of the slots are those of the ranges
 pub positions_of_subs : (subs : List RawSub) → All IsShort subs → All IsOrdered (filter_map places_of subs)

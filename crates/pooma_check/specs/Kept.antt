@@ -1,6 +1,16 @@
 -- What the code keeps of what is known.
+use Rattle.std.specs.Prelude.{◌≡◌, ℕ, ◌+◌, ◌*◌, ◌<◌, ◌≤◌, List, [], ◌∷◌, ◌++◌, length, map, min, Some}
+use Rattle.std.specs.Map.{lookup}
+use Rattle.std.specs.Str.{bytes_eq}
+use Rattle.pooma_layout.specs.Blocks.{product}
+use Rattle.pooma_model.specs.Order.{Frame}
+use Rattle.pooma_check.specs.declared.count.TheConstants.{CAP}
 use Rattle.pooma_check.specs.declared.known.Known.{Known as Kept}
-use Rattle.pooma_check.specs.Known.{Known}
+use Rattle.pooma_check.specs.declared.names.Named.{Named}
+use Rattle.pooma_check.specs.declared.names.Named.TheVariants as named
+use Rattle.pooma_check.specs.declared.cause.LimitName.TheVariants as limit
+use Rattle.pooma_check.specs.Known.{Known, declared_in}
+use Rattle.pooma_check.specs.Limits.{most}
 
 -- what is known by what is kept
 abbrev pub known_of : Kept → Known
@@ -13,3 +23,36 @@ known_of k = record {
   executed = k.executed;
   printed = k.printed;
 }
+
+-- how often a line in all of these repeats is done
+abbrev pub turns_of : List Frame → ℕ
+turns_of frames = product (map (λ frame. frame.turns) frames)
+
+-- that count for each open repeat, the outermost first, or `CAP` where it is greater
+abbrev pub turns_kept : List Frame → List ℕ
+turns_kept [] = []
+turns_kept (frame ∷ frames) = turns_kept frames ++ min (turns_of (frame ∷ frames)) CAP ∷ []
+
+-- how many statements the open repeats will execute so far
+abbrev pub executed_in : List Frame → ℕ
+executed_in [] = 0
+executed_in (frame ∷ frames) = turns_of (frame ∷ frames) * length frame.statements + executed_in frames
+
+-- what has this number is there
+abbrev pub IsThere : Known → Named → Type 0
+IsThere known (named.Layout n) = n < length known.layouts
+IsThere known (named.Array n) = n < length (declared_in known).shapes
+IsThere known (named.Stencil n) = n < length known.stencils
+IsThere known (named.Scalar n) = n < (declared_in known).scalars
+
+-- What holds between two lines: what is named is there, the limits are kept, and the executed statements are those of the draft.
+pub record IsKnown (known : Known) : Type 0 where
+  pub there : (name : List ℕ) (what : Named) → lookup (bytes_eq name) known.names ≡ Some what → IsThere known what
+  pub statements : known.executed ≡ length known.drafted.statements + executed_in known.drafted.open_repeats
+  pub allocated : known.allocated ≤ most limit.AllocatedCells
+  pub executed : known.executed ≤ most limit.Statements
+  pub printed : known.printed ≤ most limit.PrintedValues
+
+pub record IsKept (kept : Kept) : Type 0 where
+  pub known : IsKnown (known_of kept)
+  pub turns : kept.turns.items ≡ turns_kept kept.draft.open_repeats

@@ -6,9 +6,15 @@ pub mod Kept
 pub mod Known
 pub mod Layouts
 pub mod Limits
+pub mod Measures
 pub mod Operators
+pub mod Readings
+pub mod Refusals
 pub mod Scripts
+pub mod Seen
+pub mod Sound
 pub mod Statements
 pub mod Tests
 pub mod Trees
+pub mod Verdicts
 pub mod Views

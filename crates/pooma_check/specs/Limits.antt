@@ -1,5 +1,5 @@
 -- How much a script may have.
-use Rattle.std.specs.Prelude.{ℕ, List, [], ◌∷◌}
+use Rattle.std.specs.Prelude.{ℕ, Bool, true, false, List, [], ◌∷◌}
 use Rattle.pooma_check.specs.declared.cause.LimitName.{LimitName}
 use Rattle.pooma_check.specs.declared.cause.LimitName.TheVariants as limit
 
@@ -27,3 +27,13 @@ abbrev pub line_limits : List LimitName
 line_limits =
     limit.Lines ∷ limit.Name ∷ limit.Arrays ∷ limit.Coordinate ∷ limit.Patches ∷ limit.Guards ∷ limit.Extents ∷ limit.ArrayCells
     ∷ limit.AllocatedCells ∷ limit.Views ∷ limit.Depth ∷ limit.Repeats ∷ limit.Parts ∷ limit.Statements ∷ limit.PrintedValues ∷ []
+
+-- the last of them, which are told of what the line does once that is made
+abbrev pub late_limits : List LimitName
+late_limits = limit.Parts ∷ limit.Statements ∷ limit.PrintedValues ∷ []
+
+abbrev pub is_early : LimitName → Bool
+is_early limit.Parts = false
+is_early limit.Statements = false
+is_early limit.PrintedValues = false
+is_early other = true

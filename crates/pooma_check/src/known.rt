@@ -6,7 +6,7 @@ ghost use Rattle.pooma_domain.specs.Cells.{cells_of};
 ghost use Rattle.pooma_field.specs.ShapeOf.{shape_of};
 ghost use Rattle.pooma_layout.specs.Patches.{allocated_count, physical_of, total_of};
 ghost use Rattle.pooma_check.specs.After.{with_layout, with_new_array};
-ghost use Rattle.pooma_check.specs.Kept.{known_of};
+ghost use Rattle.pooma_check.specs.Kept.{IsKept, known_of};
 ghost use Rattle.pooma_check.specs.Known.{nothing_known};
 
 use crate::names::{Named, Names};
@@ -23,6 +23,8 @@ pub struct Known<'a> {
     pub layouts: Vec<Layout>,
     pub stencils: Vec<Stencil>,
     pub draft: Draft,
+    /// For each open repeat, the outermost first, how often a line in it is done, or `CAP` where that is more.
+    pub turns: Vec<u64>,
     /// The cells that all patches of all arrays allocate.
     pub allocated: u64,
     /// The statements that are executed, those in repeats as often as they will be.
@@ -32,14 +34,16 @@ pub struct Known<'a> {
 }
 
 /// What is known before the first line.
-pub fn nothing(alloc: Global) -> Known<'static>
-    ensures { known_of result ≡ nothing_known }
+pub fn nothing<'a>(alloc: Global) -> Known<'a>
+    ensures known { known_of result ≡ nothing_known }
+    ensures kept { IsKept result }
 {
     Known {
         names: Names::new(alloc),
         layouts: Vec::new(alloc),
         stencils: Vec::new(alloc),
         draft: Draft::new(alloc),
+        turns: Vec::new(alloc),
         allocated: 0,
         executed: 0,
         printed: 0,
@@ -53,7 +57,8 @@ pub fn note_layout<'a>(
     layout: Layout,
 ) -> Result<(), AllocError>
     requires { lookup (bytes_eq name.now) known.old.names ≡ None }
-    ensures { OnOk result (known_of known.new ≡ with_layout name.now layout (known_of known.old)) }
+    ensures known { OnOk result (known_of known.new ≡ with_layout name.now layout (known_of known.old)) }
+    ensures turns { OnOk result (known.new.turns.items ≡ known.old.turns.items) }
 {
     let number = known.layouts.len();
     known.layouts.push(layout)?;
@@ -74,7 +79,8 @@ pub fn note_array<'a>(
     requires total { total_of layout ≡ shape.total }
     requires few_cells { length (cells_of shape.total) ≤ 4194304 }
     requires few_allocated { known.old.allocated + allocated_count layout ≤ 16777216 }
-    ensures { OnOk result (known_of known.new ≡ with_new_array name.now (shape_of shape) layout (known_of known.old)) }
+    ensures known { OnOk result (known_of known.new ≡ with_new_array name.now (shape_of shape) layout (known_of known.old)) }
+    ensures turns { OnOk result (known.new.turns.items ≡ known.old.turns.items) }
 {
     known.allocated += layout.allocated_cells();
     let number = known.draft.declare(alloc, shape, layout)?;

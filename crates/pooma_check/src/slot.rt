@@ -3,9 +3,10 @@ ghost use Rattle.std.specs.Prelude.{◌≡◌, ◌↔◌, ◌-◌, ◌<◌, ◌�
 ghost use Rattle.std.specs.Int.{w64};
 ghost use Rattle.std.specs.Option.{ForSome};
 ghost use Rattle.pooma_view.specs.Restricted.{IsStrided};
+ghost use Rattle.pooma_view.specs.Slots.{positions_of};
 ghost use Rattle.pooma_domain.specs.Axes.{interval_of};
 ghost use Rattle.pooma_domain.specs.Cells.{IsOrdered};
-ghost use Rattle.pooma_check.specs.Ends.{EndsOn, IsOn, IsWithin};
+ghost use Rattle.pooma_check.specs.Ends.{EndsOn, IsOn, IsShort, IsWithin};
 ghost use Rattle.pooma_check.specs.Views.{along, count_to, places_of, positions_in, slot_of};
 
 use crate::tests::both;
@@ -96,6 +97,7 @@ pub fn slot_on(axis: Axis, sub: RawSub) -> Option<Slot>
     requires { ForSome (places_of sub) IsOrdered }
     ensures found { IsSome result ↔ EndsOn (interval_of axis) (slot_of sub) }
     ensures value { IfSome result (λ slot. slot ≡ slot_of sub) }
+    ensures short { IsShort sub }
 {
     match sub {
         RawSub::At(n) => fixed_on(axis, n),
@@ -112,6 +114,7 @@ pub fn view_in(b: &BoxN, array: u32, subs: &[RawSub]) -> Option<View>
     requires taking { All IsOrdered (positions_in subs.now) }
     ensures found { IsSome result ↔ IsWithin b.now (map slot_of subs.now) }
     ensures value { IfSome result (λ view. view ≡ record { array = array; slots = map slot_of subs.now }) }
+    ensures places { IfSome result (λ view. positions_of view.slots ≡ positions_in subs.now) }
 {
     coordinates_of_cells();
     let mut slots = [Slot::Fixed(0); 3];

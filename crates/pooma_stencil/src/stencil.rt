@@ -41,7 +41,7 @@ impl Model for Stencil {
 }
 
 impl Stencil {
-    ghost use Rattle.pooma_stencil.specs.Stencils.{IsExtent, result_positions};
+    ghost use Rattle.pooma_stencil.specs.Stencils.{IsExtent, IsStencil, result_positions};
     ghost use Rattle.pooma_stencil.specs.Expansions.{IsPartOf, expansion, value_on};
 
     /// The stencil of this body, with a lower and an upper extent for each of one to three axes. `Body::is_within` tells
@@ -62,6 +62,7 @@ impl Stencil {
         ensures value { result ≡ length self.now.lower }
         ensures some { 1 ≤ result }
         ensures few { result ≤ 3 }
+        ensures valid { IsStencil self.now }
     {
         self.lower.dims()
     }

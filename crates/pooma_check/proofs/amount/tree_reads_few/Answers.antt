@@ -1,0 +1,7 @@
+use Rattle.std.proofs.Common.{arith}
+use Rattle.pooma_check.specs.Kept.{known_of}
+use Rattle.pooma_check.proofs.Measured.{reads_of_tree}
+use Rattle.pooma_check.proofs.amount.tree_reads_few.Goals as goal
+
+pub returns : goal.returns
+returns c = rw (reads_of_tree (known_of c.args.known.now) c.args.text.now c.args.value.now) (grind arith)

@@ -1,0 +1,20 @@
+use Rattle.std.proofs.Common.{◌≡◌, ◌∙◌, List, Option, Some, length, min, ap, subst, sym}
+use Rattle.pooma_domain.specs.Cells.{Interval}
+use Rattle.pooma_stencil.specs.Stencils.{Stenciled}
+use Rattle.pooma_check.specs.Views.{positions_left, positions_read}
+use Rattle.pooma_check.proofs.Extents.{length-shrunk}
+use Rattle.pooma_check.proofs.axes.axes_read.Goals as goal
+
+pub returns-in-Some : goal.returns-in-Some
+returns-in-Some c =
+    let positions = c.args.reading.now.positions in
+    let stencil = c.in-Some.stencil.now in
+    let axes : c.ranges_in-axes.result ≡ length positions = c.ranges_in-axes.ensures.value ∙ ap length c.subs.ensures.positions in
+    let lower : c.dims.result ≡ length stencil.lower = c.dims.ensures.value ∙ ap length c.lower.ensures in
+    let upper : c.dims-in-Some.result ≡ length stencil.upper = c.dims-in-Some.ensures.value ∙ ap length c.upper.ensures in
+    c.min-in-Some.ensures ∙ ap (min c.ranges_in-axes.result) c.min.ensures
+    ∙ ap (λ n. min n (min c.dims.result c.dims-in-Some.result)) axes
+    ∙ ap (λ n. min (length positions) (min n c.dims-in-Some.result)) lower
+    ∙ ap (λ n. min (length positions) (min (length stencil.lower) n)) upper
+    ∙ sym (length-shrunk positions stencil.lower stencil.upper)
+    ∙ ap (λ s. length (positions_left s positions)) c.in-Some.ensures
