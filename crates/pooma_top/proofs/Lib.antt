@@ -1,14 +1,5 @@
-mod Bricks
-mod Cut
-mod Existence
-mod Forms
-mod LineLemmas
-mod Lists
 mod OneOutput
-mod Meant
 mod Prepared
-mod Rows
-mod Signed
-mod Unique
+mod Statuses
 mod Words
 mod Written

@@ -1,9 +1,3 @@
-pub mod Meanings
-pub mod Names
-pub mod Grammar
-pub mod Program
-pub mod Reading
-pub mod Script
-pub mod Serial
-pub mod Status
+pub mod Causes
 pub mod Output
+pub mod Status

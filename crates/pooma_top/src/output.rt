@@ -1,12 +1,15 @@
-ghost use Rattle.std.specs.Prelude.{◌≡◌, ◌≤◌, length, IfOk};
-ghost use Rattle.pooma_top.specs.declared.script.TheConstants.{MOST_SCRIPT_BYTES};
-ghost use Rattle.pooma_top.specs.Meanings.{IsAnswer, shown};
-ghost use Rattle.pooma_top.specs.Output.{refusal_text};
+//! What is written of a script.
+ghost use Rattle.std.specs.Prelude.{◌≡◌, IfOk};
+ghost use Rattle.pooma_check.specs.Scripts.{Runs};
+ghost use Rattle.pooma_top.specs.Output.{ended, output_of, refused_output, shown, IsAnswer, IsDefined};
 
-use crate::engine::run;
-use crate::script::{Cause, Script, read_script};
+use crate::cause::cause_text;
+use crate::command::Command;
 use crate::status::Status;
-use crate::text::refusal;
+use pooma_check::{CheckError, Refusal, check};
+use pooma_model::Program;
+use pooma_plain::run;
+use pooma_print::refusal_text;
 use std::alloc::{AllocError, Global};
 
 /// What is to be written, and the status that it ends with.
@@ -16,26 +19,62 @@ pub struct Answer {
     pub status: Status,
 }
 
-/// The answer to a script that is not too long. The only error is want of memory.
-pub fn answer_to(alloc: Global, bytes: &[u8]) -> Result<Answer, AllocError>
-    requires { length bytes.now ≤ MOST_SCRIPT_BYTES }
-    ensures { IfOk result (λ answer. IsAnswer bytes.now (shown answer)) }
+/// The answer of a command to a script. The only error is want of memory.
+pub fn answer_to(alloc: Global, command: Command, bytes: &[u8]) -> Result<Answer, AllocError>
+    ensures answer { IfOk result (λ answer. IsAnswer command bytes.now (shown answer)) }
+    ensures defined { IfOk result (λ answer. IsDefined answer.status) }
 {
-    match read_script(alloc, bytes)? {
-        Script::Runs(program) => Ok(Answer {
-            text: run(alloc, &program)?,
-            status: Status::Done,
-        }),
-        Script::Refused(number, cause) => answer_refused(alloc, number, cause),
+    match check(alloc, bytes) {
+        Ok(program) => answer_to_program(alloc, command, &program),
+        Err(CheckError::Refused(refused)) => answer_refused(alloc, refused),
+        Err(CheckError::OutOfMemory) => Err(AllocError),
     }
 }
 
-/// The answer that a script is refused at a line.
-pub fn answer_refused(alloc: Global, number: u32, cause: Cause) -> Result<Answer, AllocError>
-    ensures { IfOk result (λ answer. shown answer ≡ record { bytes = refusal_text number cause; status = Status.Refused }) }
+/// The answer of a command to a script that is this program.
+fn answer_to_program(
+    alloc: Global,
+    command: Command,
+    program: &Program,
+) -> Result<Answer, AllocError>
+    ensures answer { IfOk result (λ answer. shown answer ≡ output_of (Runs program.now) command) }
+    ensures defined { IfOk result (λ answer. IsDefined answer.status) }
 {
+    match command {
+        Command::RunOne => {
+            let ran = run(alloc, program)?;
+            Ok(Answer {
+                text: ran.bytes,
+                status: status_of(ran.faulted),
+            })
+        }
+        Command::Check => Ok(Answer {
+            text: Vec::from_slice(alloc, b"ok\n")?,
+            status: Status::Done,
+        }),
+    }
+}
+
+// How a run ended.
+fn status_of(faulted: bool) -> Status
+    ensures status { result ≡ ended faulted }
+    ensures defined { IsDefined result }
+{
+    if faulted {
+        Status::Faulted
+    } else {
+        Status::Done
+    }
+}
+
+/// The answer that a script is refused.
+pub fn answer_refused(alloc: Global, refused: Refusal) -> Result<Answer, AllocError>
+    ensures { IfOk result (λ answer. shown answer ≡ refused_output refused.line refused.cause) }
+{
+    let mut text = Vec::new(alloc);
+    refusal_text(alloc, &mut text, refused.line, cause_text(refused.cause))?;
     Ok(Answer {
-        text: refusal(alloc, number, cause)?,
+        text,
         status: Status::Refused,
     })
 }

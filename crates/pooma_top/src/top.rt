@@ -1,22 +1,23 @@
 ghost use Rattle.std.specs.Prelude.{◌≡◌, ◌↔◌, ◌⊎◌, ◌≤◌, ℕ, List, length, map, string_bytes, OnOk, OnErr, IfOk, IfErr, IfSome};
 ghost use Rattle.std.specs.Io.KnownBytes.{Appends, IsAtEnd};
 ghost use Rattle.pooma_io.specs.Outside.{HasRisen, TakesMoreThan};
-ghost use Rattle.pooma_top.specs.declared.script.TheConstants.{MOST_SCRIPT_BYTES};
-ghost use Rattle.pooma_top.specs.Meanings.{IsAnswer, shown};
-ghost use Rattle.pooma_top.specs.Output.{AppendsFront, AppendsLess, IsDefined, IsOutput, IsRunOne, Output};
+ghost use Rattle.pooma_top.specs.Output.{AppendsFront, AppendsLess, IsAnswer, IsCommand, IsDefined, IsOutput, Output, shown};
 
-use crate::command::is_run_one;
+use crate::command::{Command, command_of};
 use crate::output::{Answer, answer_refused, answer_to};
 use crate::picker::Picker;
-use crate::script::{Cause, MOST_SCRIPT_BYTES};
 use crate::status::Status;
+use pooma_check::{Cause, LimitName, Refusal};
 use pooma_io::{Failed, ReadAllError, Sink, Source, read_all};
 use std::alloc::Global;
 
+/// The most bytes of a script.
+pub const MOST_SCRIPT_BYTES: usize = 1_048_576;
+
 /// Does the command that the words after the program's name give, and answers how it ended.
 ///
-/// `run 1` reads the whole script, runs it and writes its output. It waits for nobody and returns. The clauses on bytes
-/// hold where the source and the sink tell their content.
+/// It reads the whole script, runs it or only looks at it, and writes its output. It waits for nobody and returns. The clauses
+/// on bytes hold where the source and the sink tell their content.
 pub fn top_one<S: Source, K: Sink, P: Picker>(
     alloc: Global,
     words: &[String],
@@ -25,7 +26,7 @@ pub fn top_one<S: Source, K: Sink, P: Picker>(
     picker: &mut P,
 ) -> Status
     // Usage comes exactly where the words are of no command, and then nothing is read or written.
-    ensures usage { (result ≡ Status.Usage) ↔ (IsRunOne (map string_bytes words.now) → ⊥) }
+    ensures usage { (result ≡ Status.Usage) ↔ (IsCommand (map string_bytes words.now) → ⊥) }
     ensures untouched { result ≡ Status.Usage → (source.new ≡ source.old) × (sink.new ≡ sink.old) }
 
     // A read fault comes only where the source's count of faults rose, and then nothing is written.
@@ -49,7 +50,7 @@ pub fn top_one<S: Source, K: Sink, P: Picker>(
 
     // Where nothing fails it is the defined status, or want of memory.
     ensures complete { (HasRisen (S.faults source.old) (S.faults source.new) → ⊥) → (HasRisen (K.faults sink.old) (K.faults sink.new) → ⊥)
-        → IsRunOne (map string_bytes words.now) → IsDefined result ⊎ (result ≡ Status.OutOfMemory) }
+        → IsCommand (map string_bytes words.now) → IsDefined result ⊎ (result ≡ Status.OutOfMemory) }
 
     // The source is read to its end, or past the limit on a script's bytes.
     ensures read_to_end { (result ≡ Status.Done) ⊎ (result ≡ Status.Faulted) → IsAtEnd (S.left source.new) }
@@ -59,18 +60,18 @@ pub fn top_one<S: Source, K: Sink, P: Picker>(
     ensures later { (S.faults source.old ≤ S.faults source.new) × (K.faults sink.old ≤ K.faults sink.new) }
     ensures unasked { picker.new ≡ picker.old }
 {
-    if !is_run_one(words) {
+    let Some(command) = command_of(words) else {
         return Status::Usage;
-    }
-    match prepare(alloc, source) {
+    };
+    match prepare(alloc, source, command) {
         Ok(answer) => deliver(sink, answer),
         Err(status) => status,
     }
 }
 
 /// Reads a script to its end and makes the answer to it, or says with which status that ended.
-fn prepare<S: Source>(alloc: Global, source: &mut S) -> Result<Answer, Status>
-    ensures answer { IfOk result (λ answer. IfSome (S.left source.old) (λ input. IsAnswer input (shown answer))) }
+fn prepare<S: Source>(alloc: Global, source: &mut S, command: Command) -> Result<Answer, Status>
+    ensures answer { IfOk result (λ answer. IfSome (S.left source.old) (λ input. IsAnswer command input (shown answer))) }
     ensures defined { IfOk result (λ answer. IsDefined answer.status) }
     ensures read_to_end { IfOk result (λ answer. (answer.status ≡ Status.Done) ⊎ (answer.status ≡ Status.Faulted) → IsAtEnd (S.left source.new)) }
     ensures refused_read { OnOk result (IsAtEnd (S.left source.new) ⊎ TakesMoreThan MOST_SCRIPT_BYTES (S.left source.old) (S.left source.new)) }
@@ -78,8 +79,8 @@ fn prepare<S: Source>(alloc: Global, source: &mut S) -> Result<Answer, Status>
     ensures later { S.faults source.old ≤ S.faults source.new }
 {
     let answer = match read_all(alloc, source, MOST_SCRIPT_BYTES) {
-        Ok(script) => answer_to(alloc, &script),
-        Err(ReadAllError::TooLong) => answer_refused(alloc, 0, Cause::ScriptBytes),
+        Ok(script) => answer_to(alloc, command, &script),
+        Err(ReadAllError::TooLong) => answer_refused(alloc, too_long()),
         Err(ReadAllError::ReadFault) => return Err(Status::ReadFault),
         Err(ReadAllError::OutOfMemory) => return Err(Status::OutOfMemory),
     };
@@ -117,4 +118,15 @@ fn write_all<K: Sink>(sink: &mut K, text: &[u8]) -> Result<(), Failed>
         rest = &rest[written..];
     }
     Ok(())
+}
+
+/// The refusal of a script of too many bytes.
+fn too_long() -> Refusal
+    ensures line { result.line ≡ 0 }
+    ensures cause { result.cause ≡ Cause.Limit LimitName.ScriptBytes }
+{
+    Refusal {
+        line: 0,
+        cause: Cause::Limit(LimitName::ScriptBytes),
+    }
 }
