@@ -17,18 +17,44 @@ check() {
 }
 
 out=$(printf '%s' "$first" | ./pooma run 1); check 'the first script' 0 '7 7 7 7' $? "$out"
-out=$(printf 'A = 7\n' | ./pooma run 1); check 'a refusal' 2 'refused line 1: unsupported' $? "$out"
+out=$(printf 'A = 7\n' | ./pooma run 1); check 'a refusal' 2 'refused line 1: name' $? "$out"
 out=$(printf '%s' "$first" | ./pooma run 01); check 'words of no command' 1 '' $? "$out"
 out=$(./pooma </dev/null); check 'no words' 1 '' $? "$out"
 out=$(./pooma run 1 </dev/null); check 'an empty script' 0 '' $? "$out"
+out=$(printf 'scalar a = 1 / 0\n' | ./pooma run 1); check 'a fault' 3 'fault line 1 at (): zero divisor' $? "$out"
+out=$(printf 'scalar a = 1 / 0\n' | ./pooma check); check 'check, of a script' 0 'ok' $? "$out"
+out=$(printf 'A = 7\n' | ./pooma check); check 'check, of none' 2 'refused line 1: name' $? "$out"
 out=$(./pooma $'\xff' </dev/null); check 'a word that is no text' 7 '' $? "$out"
 printf '%s' "$first" | ./pooma run 1 >&-; check 'standard output closed' 5 '' $? ''
 printf '%s' "$first" | ./pooma run 1 >/dev/full; check 'a full device' 5 '' $? ''
 out=$(./pooma run 1 <&-); check 'standard input closed' 4 '' $? "$out"
 out=$(printf '%s' "$first" | { while IFS= read -r -n 1 -d '' byte; do printf '%s' "$byte"; done; } | ./pooma run 1)
 check 'one byte at a time' 0 '7 7 7 7' $? "$out"
+# status_of OUTPUT: the status that goes with an output, by its last line.
+status_of() {
+    case ${1##*$'\n'} in
+    'refused line '*) echo 2 ;;
+    'fault line '*) echo 3 ;;
+    *) echo 0 ;;
+    esac
+}
+
 for script in examples/*.pooma; do
-    out=$(./pooma run 1 <"$script"); check "$script" 0 "$(cat "${script%.pooma}.out")" $? "$out"
+    wanted=$(cat "${script%.pooma}.out")
+    out=$(./pooma run 1 <"$script"); check "$script" "$(status_of "$wanted")" "$wanted" $? "$out"
+done
+
+# The examples of the reference: a block of a script, and behind it one of what it writes.
+blocks=$(mktemp -d) || exit 1
+trap 'rm -rf "$blocks"' EXIT
+awk -v room="$blocks" '
+    /^```pooma$/ { count++; file = room "/" count ".pooma"; next }
+    /^```text$/ { file = room "/" count ".out"; next }
+    /^```/ { file = ""; next }
+    file { print > file }' docs/LANGUAGE.md
+for script in "$blocks"/*.pooma; do
+    wanted=$(cat "${script%.pooma}.out")
+    out=$(./pooma run 1 <"$script"); check "example ${script##*/} of the reference" "$(status_of "$wanted")" "$wanted" $? "$out"
 done
 echo "program: $passed passed, $failed failed"
 [ "$failed" -eq 0 ]

@@ -5,7 +5,6 @@ use crate::run::{Ended, run_between};
 use pooma_io::{MemorySink, MemorySource, SureSink, SureSource};
 use pooma_top::Status;
 use std::alloc::{AllocError, Global};
-use std::test::Fail;
 
 const SCRIPT: &[u8] = b"brick A (0:3)\nA = 7\nprint A\n";
 
@@ -41,74 +40,156 @@ fn written_in_steps(
     Ok(Ended { status, text })
 }
 
-#[test]
-fn a_failing_read_is_a_read_fault_and_writes_nothing(rt: HostRuntime) -> Result<(), Fail> {
+// Whether a read of the script in steps is a fault that writes nothing where this call fails, which is one of those that are
+// made, and else is done.
+fn fails_as_it_should(alloc: Global, step: usize, failing: u32) -> Result<bool, AllocError>
+    requires { 1 ≤ step }
+{
+    // The script has 28 bytes, and one read more finds its end.
+    let reads = SCRIPT.len().div_ceil(step) + 1;
+    let ended = read_in_steps(alloc, step, failing)?;
+    if failing as usize <= reads {
+        Ok(ended.status == Status::ReadFault && ended.text.is_empty())
+    } else {
+        Ok(ended.status == Status::Done && ended.text.as_slice() == TEXT)
+    }
+}
+
+// The first step and call, if any, at which it does not.
+fn first_wrong_read(alloc: Global) -> Result<Option<(usize, u32)>, AllocError> {
     for step in [1usize, 3, 5, 7, 28] {
-        assert!(rt; step >= 1);
-        // the script has 28 bytes, and one read more finds its end
-        let reads = 28usize.div_ceil(step) + 1;
-        for failing in 1..=reads + 1 {
-            let ended = read_in_steps(rt.alloc(), step, failing as u32)?;
-            let (status, text) = if failing <= reads {
-                (Status::ReadFault, b"".as_slice())
-            } else {
-                (Status::Done, TEXT)
-            };
-            assert_eq!(rt; ended.status, status, "step {step}, call {failing}");
-            assert_eq!(rt; ended.text.as_slice(), text, "step {step}, call {failing}");
+        for failing in 1..31u32 {
+            if !fails_as_it_should(alloc, step.max(1), failing)? {
+                return Ok(Some((step, failing)));
+            }
         }
     }
-    Ok(())
+    Ok(None)
 }
 
 #[test]
-fn a_failing_write_leaves_a_front_of_the_text(rt: HostRuntime) -> Result<(), Fail> {
+fn a_failing_read_is_a_read_fault_and_writes_nothing(rt: HostRuntime) {
+    let wrong = first_wrong_read(rt.alloc());
+    assert!(rt; wrong == Ok(None), "{wrong:?}");
+}
+
+// Whether a write of the text in steps leaves what the calls before this one took, where it is one of those that are made.
+fn leaves_a_front(alloc: Global, step: usize, failing: u32) -> Result<bool, AllocError>
+    requires step { 1 ≤ step }
+    requires failing { 1 ≤ failing }
+{
+    let writes = TEXT.len().div_ceil(step);
+    let ended = written_in_steps(alloc, SCRIPT, 100, step, failing)?;
+    if failing as usize > writes {
+        return Ok(ended.status == Status::Done && ended.text.as_slice() == TEXT);
+    }
+    let held = (failing as usize - 1).saturating_mul(step);
+    Ok(
+        ended.status == Status::WriteFault
+            && ended.text.len() == held
+            && TEXT.starts_with(&ended.text),
+    )
+}
+
+// The first step and call, if any, at which it does not.
+fn first_wrong_write(alloc: Global) -> Result<Option<(usize, u32)>, AllocError> {
     for step in [1usize, 3, 5, 7, 8] {
-        assert!(rt; step >= 1);
-        let writes = 8usize.div_ceil(step);
-        for failing in 1..=writes + 1 {
-            let ended = written_in_steps(rt.alloc(), SCRIPT, 100, step, failing as u32)?;
-            let (status, held) = if failing <= writes {
-                (Status::WriteFault, (failing - 1) * step)
-            } else {
-                (Status::Done, 8)
-            };
-            assert!(rt; held <= TEXT.len());
-            assert_eq!(rt; ended.status, status, "step {step}, call {failing}");
-            assert_eq!(rt;
-                ended.text.as_slice(),
-                &TEXT[..held],
-                "step {step}, call {failing}"
-            );
+        for failing in 1..10u32 {
+            if !leaves_a_front(alloc, step.max(1), failing)? {
+                return Ok(Some((step, failing)));
+            }
         }
     }
-    Ok(())
+    Ok(None)
 }
 
 #[test]
-fn a_full_sink_holds_what_it_has_room_for(rt: HostRuntime) -> Result<(), Fail> {
-    for room in 0..=8usize {
-        let ended = written_in_steps(rt.alloc(), SCRIPT, room, 100, 0)?;
-        let status = if room < 8 {
-            Status::WriteFault
-        } else {
-            Status::Done
-        };
-        assert!(rt; room <= TEXT.len());
-        assert_eq!(rt; ended.status, status, "room {room}");
-        assert_eq!(rt; ended.text.as_slice(), &TEXT[..room], "room {room}");
+fn a_failing_write_leaves_a_front_of_the_text(rt: HostRuntime) {
+    let wrong = first_wrong_write(rt.alloc());
+    assert!(rt; wrong == Ok(None), "{wrong:?}");
+}
+
+// Whether a sink with so much room holds as much of the text as it has room for.
+fn holds_what_it_can(alloc: Global, room: usize) -> Result<bool, AllocError> {
+    let ended = written_in_steps(alloc, SCRIPT, room, 100, 0)?;
+    let whole = room >= TEXT.len();
+    let held = if whole { TEXT.len() } else { room };
+    let status = if whole {
+        Status::Done
+    } else {
+        Status::WriteFault
+    };
+    Ok(ended.status == status && ended.text.len() == held && TEXT.starts_with(&ended.text))
+}
+
+// The first room, if any, with which it does not.
+fn first_wrong_room(alloc: Global) -> Result<Option<usize>, AllocError> {
+    for room in 0..10usize {
+        if !holds_what_it_can(alloc, room)? {
+            return Ok(Some(room));
+        }
     }
-    Ok(())
+    Ok(None)
 }
 
 #[test]
-fn two_lines_in_steps_of_five(rt: HostRuntime) -> Result<(), Fail> {
-    let script = b"brick A (0:3)\nA = 7\nprint A\nprint A\n";
-    let cut = written_in_steps(rt.alloc(), script, 100, 5, 2)?;
-    assert_eq!(rt; cut.status, Status::WriteFault);
-    assert_eq!(rt; cut.text.as_slice(), b"7 7 7".as_slice());
-    let whole = written_in_steps(rt.alloc(), script, 100, 5, 0)?;
-    assert_eq!(rt; whole.status, Status::Done);
-    assert_eq!(rt; whole.text.as_slice(), b"7 7 7 7\n7 7 7 7\n".as_slice());
-    Ok(())
+fn a_full_sink_holds_what_it_has_room_for(rt: HostRuntime) {
+    let wrong = first_wrong_room(rt.alloc());
+    assert!(rt; wrong == Ok(None), "{wrong:?}");
+}
+
+// Whether a run into a sink with so much room, which takes so many bytes a call and fails at one, ends so.
+fn ends_so(
+    alloc: Global,
+    script: &[u8],
+    ends: (usize, usize, u32),
+    status: Status,
+    text: &[u8],
+) -> Result<bool, AllocError> {
+    let ended = written_in_steps(alloc, script, ends.0, ends.1.max(1), ends.2)?;
+    Ok(ended.status == status && ended.text.as_slice() == text)
+}
+
+const TWO_LINES: &[u8] = b"brick A (0:3)\nA = 7\nprint A\nprint A\n";
+
+fn two_lines(alloc: Global) -> Result<[bool; 2], AllocError> {
+    Ok([
+        ends_so(alloc, TWO_LINES, (100, 5, 2), Status::WriteFault, b"7 7 7")?,
+        ends_so(
+            alloc,
+            TWO_LINES,
+            (100, 5, 0),
+            Status::Done,
+            b"7 7 7 7\n7 7 7 7\n",
+        )?,
+    ])
+}
+
+#[test]
+fn two_lines_in_steps_of_five(rt: HostRuntime) {
+    assert!(rt; two_lines(rt.alloc()) == Ok([true; 2]));
+}
+
+fn cut_short(alloc: Global) -> Result<[bool; 2], AllocError> {
+    Ok([
+        ends_so(
+            alloc,
+            b"scalar a = 1 / 0\n",
+            (10, 100, 0),
+            Status::WriteFault,
+            b"fault line",
+        )?,
+        ends_so(
+            alloc,
+            b"A = 1\n",
+            (7, 100, 0),
+            Status::WriteFault,
+            b"refused",
+        )?,
+    ])
+}
+
+#[test]
+fn a_write_fault_comes_in_place_of_a_fault_and_of_a_refusal(rt: HostRuntime) {
+    assert!(rt; cut_short(rt.alloc()) == Ok([true; 2]));
 }

@@ -39,3 +39,30 @@ pub fn run_between<S: Source, K: Sink>(
     let words = words_of(alloc, words)?;
     Ok(top_one(alloc, &words, source, sink, &mut First))
 }
+
+/// The place of the first of some scripts that is not answered by the text beside it and with this status.
+pub fn first_wrong(
+    alloc: Global,
+    words: &[&str],
+    rows: &[(&[u8], &[u8])],
+    status: Status,
+) -> Result<Option<usize>, AllocError> {
+    for (place, (input, text)) in rows.iter().enumerate() {
+        if !is_answered(alloc, words, input, text, status)? {
+            return Ok(Some(place));
+        }
+    }
+    Ok(None)
+}
+
+// Whether the script is answered by this text and with this status.
+fn is_answered(
+    alloc: Global,
+    words: &[&str],
+    input: &[u8],
+    text: &[u8],
+    status: Status,
+) -> Result<bool, AllocError> {
+    let ended = run(alloc, words, input)?;
+    Ok(ended.text.as_slice() == text && ended.status == status)
+}
