@@ -1,12 +1,12 @@
 -- What a program declares of an array that is there.
-use Rattle.std.proofs.Common.{◌≡◌, ℕ, zero, suc, ◌<◌, ◌≤◌, ℤ, List, [], ◌∷◌, length, Some, None, refl, sym, ap, subst, ◌∙◌, arith}
+use Rattle.std.proofs.Common.{◌≡◌, ℕ, zero, suc, ◌≤◌, List, [], ◌∷◌, length, Some, refl, sym, ap, subst, ◌∙◌, arith}
 use Rattle.std.proofs.lemmas.Int.{ints}
 use Rattle.std.proofs.lemmas.List.{length-map}
 use Rattle.std.proofs.lemmas.List.Elements.{All-cons, All-head, All-nil, All-tail}
 use Rattle.std.specs.List.{AllZip}
 use Rattle.std.specs.Prelude.{All, map, slice_get}
 use Rattle.pooma_domain.specs.Cells.{Interval}
-use Rattle.pooma_field.specs.Shapes.{IsShape, Shaped}
+use Rattle.pooma_field.specs.Shapes.{Shaped}
 use Rattle.pooma_layout.specs.Axes.{CutAxis, IsCutAxis, total_axis}
 use Rattle.pooma_layout.specs.Patches.{IsLayout, physical_of, total_of}
 use Rattle.pooma_model.specs.Declarations.{Declared, IsArray, IsDeclaring}

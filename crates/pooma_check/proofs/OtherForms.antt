@@ -9,14 +9,12 @@ use Rattle.pooma_parse.specs.declared.form.RawExpr.{RawExpr}
 use Rattle.pooma_parse.specs.declared.form.RawView.{RawView}
 use Rattle.pooma_parse.specs.declared.form.RawLine.{RawLine}
 use Rattle.pooma_parse.specs.declared.form.RawLine.TheVariants as line
-use Rattle.pooma_model.specs.Declarations.{Declared}
 use Rattle.pooma_model.specs.Fit.{IsReadable}
 use Rattle.pooma_check.specs.declared.names.Named.{Named}
 use Rattle.pooma_check.specs.declared.names.Named.TheVariants as named
 use Rattle.pooma_check.specs.Known.{Known, declared_in, named_at}
 use Rattle.pooma_check.specs.Statements.{action_of, print_of, task_of}
 use Rattle.pooma_check.specs.Tests.{HasNumbers, HasPositions, LiesInside, ReadsApartOf, WritesInside}
-use Rattle.pooma_check.specs.Views.{Reading}
 
 module _ (known : Known) (text : List ℕ) where
   pub numbers_of_others : (form : RawLine) → ((layout : Span) (domain : List (ℤ × ℤ)) (cutting : RawCutting) (internal : List ℤ) (external : List ℤ) → form ≡ line.Layout layout domain cutting internal external → ⊥) → ((brick : Span) (domain : List (ℤ × ℤ)) → form ≡ line.Brick brick domain → ⊥)

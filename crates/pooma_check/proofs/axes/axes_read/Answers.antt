@@ -1,7 +1,5 @@
-use Rattle.std.proofs.Common.{◌≡◌, ◌∙◌, List, Option, Some, length, min, ap, subst, sym}
-use Rattle.pooma_domain.specs.Cells.{Interval}
-use Rattle.pooma_stencil.specs.Stencils.{Stenciled}
-use Rattle.pooma_check.specs.Views.{positions_left, positions_read}
+use Rattle.std.proofs.Common.{◌≡◌, ◌∙◌, length, min, ap, sym}
+use Rattle.pooma_check.specs.Views.{positions_left}
 use Rattle.pooma_check.proofs.Extents.{length-shrunk}
 use Rattle.pooma_check.proofs.axes.axes_read.Goals as goal
 

@@ -1,8 +1,8 @@
-use Rattle.std.proofs.Common.{◌≡◌, ◌∙◌, List, Option, Some, ap, subst, sym}
+use Rattle.std.proofs.Common.{◌∙◌, List, ap, subst}
 use Rattle.std.specs.Prelude.{◌↔◌, All, IsTrue}
 use Rattle.pooma_domain.specs.Cells.{Interval, IsOrdered}
-use Rattle.pooma_stencil.specs.Stencils.{Stenciled, shrunk}
-use Rattle.pooma_check.specs.Views.{positions_left, positions_read}
+use Rattle.pooma_stencil.specs.Stencils.{shrunk}
+use Rattle.pooma_check.specs.Views.{positions_left}
 use Rattle.pooma_check.proofs.places.leaves_some.Goals as goal
 
 pub returns-in-None : goal.returns-in-None

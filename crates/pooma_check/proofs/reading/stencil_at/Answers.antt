@@ -1,4 +1,4 @@
-use Rattle.std.proofs.Common.{◌≡◌, ◌∙◌, ◌<◌, List, Option, Some, ap, length, subst, sym, true≢false}
+use Rattle.std.proofs.Common.{◌∙◌, ◌<◌, List, Option, Some, ap, length, subst, sym, true≢false}
 use Rattle.pooma_text.specs.Lines.{text_at}
 use Rattle.pooma_stencil.specs.Stencils.{Stenciled}
 use Rattle.pooma_check.specs.declared.names.Named.{Named}

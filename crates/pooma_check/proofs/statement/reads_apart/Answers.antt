@@ -1,7 +1,6 @@
 use Rattle.std.proofs.Common.{◌≡◌, ◌∙◌, List, None, ◌∷◌, ap, refl, subst, sym}
 use Rattle.std.specs.Prelude.{◌↔◌, All, IsTrue}
 use Rattle.pooma_parse.specs.declared.form.RawLine.{RawLine}
-use Rattle.pooma_parse.specs.declared.form.RawLine.TheVariants.{Assign}
 use Rattle.pooma_check.specs.Kept.{known_of}
 use Rattle.pooma_check.specs.Known.{declared_in}
 use Rattle.pooma_check.specs.Readings.{IsSoundReading}
