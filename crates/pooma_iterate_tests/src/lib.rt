@@ -1,4 +1,5 @@
-//! What queues, the iterate machine, the desk and pieces answer: worked examples and tables, one file for each crate under test.
+//! What queues, the iterate machine, the desk, cut positions and pieces answer: worked examples and tables, one file for each
+//! crate under test.
 #![tactic(auto)]
 
 #[cfg(test)]
@@ -7,6 +8,8 @@ mod desk;
 mod law;
 #[cfg(test)]
 mod machine;
+#[cfg(test)]
+mod part;
 #[cfg(test)]
 mod piece;
 #[cfg(test)]
