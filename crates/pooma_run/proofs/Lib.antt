@@ -1,0 +1,7 @@
+pub mod Statuses
+pub mod Lists
+pub mod Ascending
+pub mod Choosing
+pub mod Runs
+pub mod Growth
+pub mod Turns

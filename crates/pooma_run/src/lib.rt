@@ -1,0 +1,14 @@
+//! Runs of programs on the iterate machine: how a window of works is completed, and who chooses the order of its entries.
+#![tactic(auto)]
+
+pub use completer::{Completed, Completer};
+pub use list_picker::ListPicker;
+pub use one_thread::OneThread;
+pub use picker::{First, Picker};
+
+mod choices;
+mod completer;
+mod list_picker;
+mod one_thread;
+mod picker;
+mod window;
