@@ -13,29 +13,27 @@ use Rattle.pooma_piece.proofs.Firsts.{HaveNumbers, HaveNumbers-more, first_fault
 use Rattle.pooma_piece.proofs.Seen.{can_see, sees_them}
 use Rattle.pooma_piece.proofs.Totals.{kept_is}
 use Rattle.pooma_piece.proofs.run.reduce.Goals as goal
+use Rattle.pooma_piece.proofs.run.reduce.Goals.{After-cell_at-p}
+
+-- which position is next
+here : (c : After-cell_at-p) → slice_get (cells_of c.args.piece.now.positions) c.loop-k.k ≡ Some c.cell_at-p.result
+here c = subst (λ (box : List Interval). slice_get (cells_of box) c.loop-k.k ≡ Some c.cell_at-p.result) c.positions-positions.ensures c.cell_at-p.ensures.stands
 
 pub value_at-requires-clause-there : goal.value_at-requires-clause-there
 value_at-requires-clause-there c =
-    let piece = c.args.piece.now in
     let written = option_map content_of (option_copied c.args.written) in
     let reads = contents content_of c.args.reads.now in
-    let value = value_at piece written reads in
-    let cells = cells_of piece.positions in
-    let p = c.cell_at-p.result in
-    let at = subst (λ (box : List Interval). slice_get (cells_of box) c.loop-k.k ≡ Some p) c.positions-positions.ensures c.cell_at-p.ensures.stands in
-    can_see piece written reads c.code-code.ensures.valid.alike c.requires.fits c.loop-k.k p at
+    can_see c.args.piece.now written reads c.code-code.ensures.valid.alike c.requires.fits c.loop-k.k c.cell_at-p.result (here (goal.at.value_at-requires-clause-there c).After-cell_at-p)
 
 pub returns-in-Err : goal.returns-in-Err
 returns-in-Err c =
     let piece = c.args.piece.now in
     let written = option_map content_of (option_copied c.args.written) in
     let reads = contents content_of c.args.reads.now in
-    let value = value_at piece written reads in
-    let cells = cells_of piece.positions in
     let p = c.cell_at-p.result in
-    let at = subst (λ (box : List Interval). slice_get (cells_of box) c.loop-k.k ≡ Some p) c.positions-positions.ensures c.cell_at-p.ensures.stands in
+    let at = here (goal.at.returns-in-Err c).After-cell_at-p in
     let is = sym (c.in-Err.ensures (seen_by piece written reads) (sees_them piece written reads p c.code-code.ensures.valid.alike)) in
-    sym (first_fault_is value cells c.loop-k.k p c.in-Err.fault _ c.loop-k.invariant.numbers at is)
+    sym (first_fault_is (value_at piece written reads) (cells_of piece.positions) c.loop-k.k p c.in-Err.fault _ c.loop-k.invariant.numbers at is)
 
 pub loop-k-preserved : goal.loop-k-preserved
 loop-k-preserved c =
@@ -45,7 +43,7 @@ loop-k-preserved c =
     let value = value_at piece written reads in
     let cells = cells_of piece.positions in
     let p = c.cell_at-p.result in
-    let at = subst (λ (box : List Interval). slice_get (cells_of box) c.loop-k.k ≡ Some p) c.positions-positions.ensures c.cell_at-p.ensures.stands in
+    let at = here (goal.at.loop-k-preserved c).After-cell_at-p in
     let is = sym (c.in-Ok.ensures (seen_by piece written reads) (sees_them piece written reads p c.code-code.ensures.valid.alike)) in
     let bare : to_z w64 (of_z w64 c.in-Ok.x) ≡ c.in-Ok.x = search rules in
     let taken = numbers_over value (take c.loop-k.k cells) in
