@@ -13,7 +13,7 @@ use std::marker::Brand;
 use std::sync::Wait;
 use std::thread;
 
-// The turn, held: the place of the pass that holds it, and the machine.
+/// The turn, held: the place of the pass that holds it, and the machine.
 pub(crate) struct Turn<W: Work> {
     pub(crate) place: Place<W>,
     pub(crate) seat: u32,
@@ -53,7 +53,8 @@ impl<W: Work> Desk<W> {
         }
     }
 
-    // Takes the turn for the pass, steps 3 and 4. A try that finds it held is made again.
+    /// Takes the turn for the pass, steps 3 and 4, with the machine as it is after all that happened. A try that finds it held
+    /// is made again.
     pub(crate) fn enter<R: Wait>(&self, rt: &R, pass: Pass<W>) -> Turn<W>
         requires { pass.from ≡ self.now }
         ensures desk { result.place.table_id ≡ self.now.desk }
@@ -83,7 +84,7 @@ impl<W: Work> Desk<W> {
         unreachable!()
     }
 
-    // Step 5: counts an event and notes it. The machine has it already.
+    /// Step 5: counts an event and notes it, with the work that it requests, if it is a request. The machine has it already.
     pub(crate) fn note<E: Picked<W>>(
         &self,
         place: &mut Place<W>,
@@ -103,7 +104,7 @@ impl<W: Work> Desk<W> {
         self.table.shared.store::<Note<E>>(place, 1, events);
     }
 
-    // Step 5 for an event that is no request.
+    /// Step 5 for an event that is no request.
     pub(crate) fn note_called<'a>(
         &'a self,
         place: &'a mut Place<W>,
@@ -122,7 +123,7 @@ impl<W: Work> Desk<W> {
         self.note::<Brand>(place, machine, event, nothing);
     }
 
-    // Steps 6 and 7: puts the machine back, and leaves the turn.
+    /// Steps 6 and 7: puts the machine back, and leaves the turn. The pass has seen all that happened by then.
     pub(crate) fn leave(&self, turn: Turn<W>) -> Pass<W>
         requires desk { turn.place.table_id ≡ self.now.desk }
         requires turn { IsInTurn turn.place.me turn.seat turn.next }

@@ -89,6 +89,7 @@ impl Arrays {
         self.list[array as usize].first
     }
 
+    /// The shape of an array.
     pub(crate) fn shape(&self, array: u32) -> &Shape
         requires { array < length self.now.layouts }
         ensures { shape_of result.now ≡ shape_at self.now.shapes array }
@@ -96,6 +97,7 @@ impl Arrays {
         &self.list[array as usize].shape
     }
 
+    /// The layout of an array.
     pub(crate) fn layout(&self, array: u32) -> &Layout
         requires { array < length self.now.layouts }
         ensures value { result.now ≡ layout_at self.now.layouts array }
