@@ -2,7 +2,6 @@
 use crate::shown::shown;
 use pooma_parse::{LineError, parse_line};
 use std::alloc::{AllocError, Global};
-use std::test::Fail;
 
 fn repeated(
     alloc: Global,
@@ -24,7 +23,7 @@ fn repeated(
 }
 
 /// Lines with their forms, `blank` or `syntax`.
-const FORMS: [(&[u8], &[u8]); 61] = [
+const FORMS: &[(&[u8], &[u8])] = &[
     (b"", b"blank"),
     (b" \t\r # A = 1", b"blank"),
     (
@@ -127,17 +126,21 @@ const FORMS: [(&[u8], &[u8]); 61] = [
     (b"end", b"end"),
 ];
 
+// Whether the line has this form.
+fn has_form(alloc: Global, line: &[u8], form: &[u8]) -> Result<bool, AllocError> {
+    Ok(shown(alloc, line)?.as_slice() == form)
+}
+
 // How lines group, by the grammar's own words.
 #[test]
-fn lines_have_their_forms(rt: HostRuntime) -> Result<(), Fail> {
-    for (line, expected) in FORMS {
-        assert_eq!(rt; shown(rt.alloc(), line)?.as_slice(), expected);
+fn lines_have_their_forms(rt: HostRuntime) {
+    for (line, form) in FORMS {
+        assert_eq!(rt; (form, has_form(rt.alloc(), line, form)), (form, Ok(true)));
     }
-    Ok(())
 }
 
 /// The words that are no names.
-const RESERVED: [&[u8]; 41] = [
+const RESERVED: &[&[u8]] = &[
     b"layout",
     b"blocks",
     b"cuts",
@@ -182,7 +185,7 @@ const RESERVED: [&[u8]; 41] = [
 ];
 
 /// What stands before a name and behind it.
-const PLACES: [(&[u8], &[u8]); 14] = [
+const PLACES: &[(&[u8], &[u8])] = &[
     (b"layout ", b" (0:3) blocks (2)"),
     (b"brick ", b" (0:3)"),
     (b"array ", b" on L"),
@@ -199,22 +202,29 @@ const PLACES: [(&[u8], &[u8]); 14] = [
     (b"print ", b""),
 ];
 
+// Whether the word is a name between these.
+fn is_name(alloc: Global, before: &[u8], word: &[u8], behind: &[u8]) -> Result<bool, AllocError> {
+    let mut line = Vec::from_slice(alloc, before)?;
+    line.extend_from_slice(word)?;
+    line.extend_from_slice(behind)?;
+    Ok(parse_line(alloc, &line).is_ok())
+}
+
 #[test]
-fn reserved_words_are_no_names(rt: HostRuntime) -> Result<(), Fail> {
+fn reserved_words_are_no_names(rt: HostRuntime) {
     for word in RESERVED {
         for (before, behind) in PLACES {
-            let mut line = Vec::from_slice(rt.alloc(), before)?;
-            line.extend_from_slice(word)?;
-            line.extend_from_slice(behind)?;
-            let is_abs = word == b"abs".as_slice() && behind == b"(B[0])".as_slice();
-            assert_eq!(rt; parse_line(rt.alloc(), &line).is_ok(), is_abs);
+            let is_abs = *word == b"abs".as_slice() && *behind == b"(B[0])".as_slice();
+            assert_eq!(rt;
+                (word, is_name(rt.alloc(), before, word, behind)),
+                (word, Ok(is_abs))
+            );
         }
     }
-    Ok(())
 }
 
 /// How a line begins, what is opened, what stands inside, what closes it, and how often it may be opened.
-const NESTED: [(&[u8], &[u8], &[u8], &[u8], u8); 13] = [
+const NESTED: &[(&[u8], &[u8], &[u8], &[u8], u8)] = &[
     (b"A = ", b"(", b"1", b")", 64),
     (b"A = ", b"-", b"1", b"", 64),
     (b"A = ", b"-(", b"1", b")", 32),
@@ -254,28 +264,28 @@ fn refusal(
 
 // What is nested 64 deep is a line, and what is nested 65 deep is none.
 #[test]
-fn nesting_has_its_limit(rt: HostRuntime) -> Result<(), Fail> {
+fn nesting_has_its_limit(rt: HostRuntime) {
     for (head, open, inside, close, most) in NESTED {
-        let at_most = refusal(rt.alloc(), head, open, inside, close, usize::from(most))?;
-        assert_eq!(rt; at_most, None);
-        let past = refusal(rt.alloc(), head, open, inside, close, usize::from(most) + 1)?;
-        assert_eq!(rt; past, Some(LineError::Syntax));
+        let most = usize::from(*most);
+        let at_most = refusal(rt.alloc(), head, open, inside, close, most);
+        let past = refusal(rt.alloc(), head, open, inside, close, most + 1);
+        assert_eq!(rt;
+            (open, at_most, past),
+            (open, Ok(None), Ok(Some(LineError::Syntax)))
+        );
     }
-    Ok(())
 }
 
 // The deepest tree: 4,096 tokens with as many operators as they can hold, which group to the left.
 #[test]
-fn the_deepest_tree_is_made_and_dropped(rt: HostRuntime) -> Result<(), Fail> {
-    let deepest = refusal(rt.alloc(), b"A=-1", b"+1", b"", b"", 2046)?;
-    assert_eq!(rt; deepest, None);
-    let longer = refusal(rt.alloc(), b"A=- -1", b"+1", b"", b"", 2046)?;
-    assert_eq!(rt; longer, Some(LineError::Syntax));
-    Ok(())
+fn the_deepest_tree_is_made_and_dropped(rt: HostRuntime) {
+    let deepest = refusal(rt.alloc(), b"A=-1", b"+1", b"", b"", 2046);
+    let longer = refusal(rt.alloc(), b"A=- -1", b"+1", b"", b"", 2046);
+    assert!(rt; deepest == Ok(None) && longer == Ok(Some(LineError::Syntax)));
 }
 
 /// Lines with numbers, and whether they are lines.
-const NUMBERS: [(&[u8], bool); 12] = [
+const NUMBERS: &[(&[u8], bool)] = &[
     (b"repeat 999999999", true),
     (b"repeat 0000999999999", true),
     (b"repeat 1000000000", false),
@@ -291,19 +301,28 @@ const NUMBERS: [(&[u8], bool); 12] = [
 ];
 
 #[test]
-fn numbers_and_single_bytes(rt: HostRuntime) -> Result<(), Fail> {
+fn numbers_have_their_limits(rt: HostRuntime) {
     for (line, is_line) in NUMBERS {
-        assert_eq!(rt; parse_line(rt.alloc(), line).is_ok(), is_line);
+        assert_eq!(rt;
+            (line, parse_line(rt.alloc(), line).is_ok()),
+            (line, *is_line)
+        );
     }
+}
+
+#[test]
+fn single_bytes_are_no_lines(rt: HostRuntime) {
     for byte in 0..=255u8 {
         let is_blank = matches!(byte, b' ' | b'\t' | b'\r' | b'#');
-        assert_eq!(rt; parse_line(rt.alloc(), &[byte]).is_ok(), is_blank);
+        assert_eq!(rt;
+            (byte, parse_line(rt.alloc(), &[byte]).is_ok()),
+            (byte, is_blank)
+        );
     }
-    Ok(())
 }
 
 /// The words of lines, and of each word whether the line without it, with it twice, and with `%` for it is one (`+` or `.`).
-const WORDS: [(&[&[u8]], &[u8]); 14] = [
+const WORDS: &[(&[&[u8]], &[u8])] = &[
     (
         &[
             b"layout", b"L", b"(", b"0", b":", b"3", b")", b"blocks", b"(", b"2", b")",
@@ -424,10 +443,17 @@ fn marks(alloc: Global, words: &[&[u8]]) -> Result<Vec<u8>, AllocError> {
     Ok(marks)
 }
 
+// Whether the words have these marks.
+fn have_marks(alloc: Global, words: &[&[u8]], expected: &[u8]) -> Result<bool, AllocError> {
+    Ok(marks(alloc, words)?.as_slice() == expected)
+}
+
 #[test]
-fn a_word_less_or_more_is_mostly_no_line(rt: HostRuntime) -> Result<(), Fail> {
+fn a_word_less_or_more_is_mostly_no_line(rt: HostRuntime) {
     for (words, expected) in WORDS {
-        assert_eq!(rt; marks(rt.alloc(), words)?.as_slice(), expected);
+        assert_eq!(rt;
+            (words, have_marks(rt.alloc(), words, expected)),
+            (words, Ok(true))
+        );
     }
-    Ok(())
 }
