@@ -1,4 +1,4 @@
-ghost use Rattle.std.specs.Prelude.{◌≡◌, ◌≤◌, IfOk, IsTrue, length};
+ghost use Rattle.std.specs.Prelude.{◌≡◌, ◌≤◌, IfSome, IsTrue, length};
 ghost use Rattle.pooma_expr.specs.Trees.{axes_needed};
 ghost use Rattle.pooma_piece.specs.Pieces.{HasPositions};
 
@@ -10,18 +10,14 @@ use pooma_patch::Patch;
 use pooma_piece::{MOST_POSITIONS, Outcome, Piece, Task, run_piece};
 use pooma_view::{Slot, View};
 use sqlite_items::Boxed;
-use std::alloc::AllocError;
+use std::alloc::{AllocError, Global};
 use std::sync::Arc;
-use std::test::Fail;
 
 // The numbers from a first to a last one, as a box of one axis.
-fn from_to(first: i32, last: i32) -> Result<BoxN, Fail>
-    ensures { IfOk result (λ made. length made ≡ 1) }
+fn from_to(first: i32, last: i32) -> Option<BoxN>
+    ensures { IfSome result (λ made. length made ≡ 1) }
 {
-    match Axis::of(first, last) {
-        Some(axis) => Ok(BoxN::of1(axis)),
-        None => Err(Fail::from("no axis")),
-    }
+    Some(BoxN::of1(Axis::of(first, last)?))
 }
 
 // The view of an array's cells 0 to 7.
@@ -36,29 +32,29 @@ fn eight(array: u32) -> View
     View::new(array, &[Slot::Along(cells)])
 }
 
-fn bin(rt: &HostRuntime, op: Op, a: Expr, b: Expr) -> Result<Expr, AllocError> {
-    Ok(Expr::Bin(op, Boxed::new(rt.alloc(), a)?, Boxed::new(rt.alloc(), b)?))
+fn bin(alloc: Global, op: Op, a: Expr, b: Expr) -> Result<Expr, AllocError> {
+    Ok(Expr::Bin(op, Boxed::new(alloc, a)?, Boxed::new(alloc, b)?))
 }
 
-fn code_of(rt: &HostRuntime, expr: &Expr) -> Result<Code, Fail>
-    ensures { IfOk result (λ code. axes_needed code ≤ 1) }
+// The code of an expression without scalars that asks for one axis at most.
+fn code_of(alloc: Global, expr: Result<Expr, AllocError>) -> Option<Code>
+    ensures { IfSome result (λ code. axes_needed code ≤ 1) }
 {
+    let expr = expr.ok()?;
     let may_be = expr.is_within_depth(256)
         && expr.reads_left(64).is_some()
         && expr.scalars_needed() == 0
         && expr.axes_needed() <= 1;
     if !may_be {
-        return Err(Fail::from("no such code"));
+        return None;
     }
-    Ok(Code::of(rt.alloc(), expr, &[])?)
+    Code::of(alloc, &expr, &[]).ok()
 }
 
 // `5 / (2 - index(0))`
-fn quotient(rt: &HostRuntime) -> Result<Code, Fail>
-    ensures { IfOk result (λ code. axes_needed code ≤ 1) }
-{
-    let difference = bin(rt, Op::Sub, Expr::Literal(2), Expr::Index(0))?;
-    code_of(rt, &bin(rt, Op::Div, Expr::Literal(5), difference)?)
+fn quotient(alloc: Global) -> Result<Expr, AllocError> {
+    let difference = bin(alloc, Op::Sub, Expr::Literal(2), Expr::Index(0))?;
+    bin(alloc, Op::Div, Expr::Literal(5), difference)
 }
 
 // Whether these are positions of the view.
@@ -74,55 +70,50 @@ fn are_positions(positions: &BoxN, view: &View) -> bool
 }
 
 // A piece of statement 3 that reads nothing and sets cells of array 0 in object 5.
-fn assigning(rt: &HostRuntime, positions: BoxN, code: Code) -> Result<Piece, Fail>
+fn assigning(alloc: Global, positions: BoxN, code: Code) -> Option<Piece>
     requires axes { axes_needed code ≤ 1 }
     requires dims { length positions ≡ 1 }
 {
     let target = eight(0);
     let [] = code.reads() else {
-        return Err(Fail::from("a read"));
+        return None;
     };
     if !are_positions(&positions, &target) || positions.count() > MOST_POSITIONS {
-        return Err(Fail::from("other positions"));
+        return None;
     }
     let task = Task::Assign { target };
-    Ok(Piece::new(rt.alloc(), 3, positions, task, code, Some(5), &[])?)
+    Piece::new(alloc, 3, positions, task, code, Some(5), &[]).ok()
 }
 
 // A piece of statement 3 that reads nothing and reduces.
-fn reducing(
-    rt: &HostRuntime,
-    positions: BoxN,
-    reduction: Reduction,
-    code: Code,
-) -> Result<Piece, Fail>
+fn reducing(alloc: Global, positions: BoxN, reduction: Reduction, code: Code) -> Option<Piece>
     requires axes { axes_needed code ≤ 1 }
     requires dims { length positions ≡ 1 }
 {
     let [] = code.reads() else {
-        return Err(Fail::from("a read"));
+        return None;
     };
     if positions.count() > MOST_POSITIONS {
-        return Err(Fail::from("many positions"));
+        return None;
     }
     let task = Task::Reduce { reduction };
-    Ok(Piece::new(rt.alloc(), 3, positions, task, code, None, &[])?)
+    Piece::new(alloc, 3, positions, task, code, None, &[]).ok()
 }
 
 // A patch of cells 0 to 7, whose numbers are 0, and can be set.
-fn zeros(rt: &HostRuntime) -> Result<Patch, Fail> {
+fn zeros(alloc: Global) -> Option<Patch> {
     let mut patch = Patch::zeros(from_to(0, 7)?);
-    Piece::prepared(rt.alloc(), &mut patch)?;
-    Ok(patch)
+    Piece::prepared(alloc, &mut patch).ok()?;
+    Some(patch)
 }
 
 // What comes of a piece that reads nothing.
-fn run_alone(piece: &Piece, patch: &mut Patch) -> Result<Outcome, Fail> {
+fn run_alone(piece: &Piece, patch: &mut Patch) -> Option<Outcome> {
     let reads: [Arc<Patch>; 0] = [];
     if patch.is_one() || !piece.fits(Some(&*patch), &reads) {
-        return Err(Fail::from("no fit"));
+        return None;
     }
-    Ok(run_piece(piece, Some(patch), &reads))
+    Some(run_piece(piece, Some(patch), &reads))
 }
 
 // The number of the patch at this cell.
@@ -135,63 +126,65 @@ fn number(patch: &Patch, at: i32) -> Option<i64> {
     }
 }
 
-#[test]
-fn a_fault_is_named_by_its_position_in_the_statement(rt: HostRuntime) -> Result<(), Fail> {
-    let piece = assigning(&rt, from_to(1, 3)?, quotient(&rt)?)?;
-    let mut patch = zeros(&rt)?;
-    let Outcome::Fault { position, kind } = run_alone(&piece, &mut patch)? else {
-        return Err(Fail::from("no fault"));
-    };
-    assert_eq!(rt; position, Cell::of1(2));
-    assert_eq!(rt; kind, FaultKind::ZeroDivisor);
+// The fault and its position, if it is one.
+fn fault(outcome: Outcome) -> Option<(Cell, FaultKind)> {
+    match outcome {
+        Outcome::Fault { position, kind } => Some((position, kind)),
+        _ => None,
+    }
+}
+
+// Sets the cells from a first to a last one to that quotient. The fault, if there is one, and the cells 0 to 4 and 7.
+fn quotients(
+    alloc: Global,
+    first: i32,
+    last: i32,
+) -> Option<(Option<(Cell, FaultKind)>, [Option<i64>; 6])> {
+    let code = code_of(alloc, quotient(alloc))?;
+    let piece = assigning(alloc, from_to(first, last)?, code)?;
+    let mut patch = zeros(alloc)?;
+    let fault = fault(run_alone(&piece, &mut patch)?);
     let numbers = [
         number(&patch, 0),
         number(&patch, 1),
         number(&patch, 2),
         number(&patch, 3),
-    ];
-    assert_eq!(rt; numbers, [Some(0), Some(5), Some(0), Some(0)]);
-    Ok(())
-}
-
-#[test]
-fn positions_without_a_fault_are_all_set(rt: HostRuntime) -> Result<(), Fail> {
-    let piece = assigning(&rt, from_to(3, 7)?, quotient(&rt)?)?;
-    let mut patch = zeros(&rt)?;
-    let Outcome::Done = run_alone(&piece, &mut patch)? else {
-        return Err(Fail::from("not done"));
-    };
-    let numbers = [
-        number(&patch, 2),
-        number(&patch, 3),
         number(&patch, 4),
         number(&patch, 7),
     ];
-    assert_eq!(rt; numbers, [Some(0), Some(-5), Some(-2), Some(-1)]);
-    Ok(())
-}
-
-// What a reduction of the position's number from 2 to 4 comes to.
-fn reduced(rt: &HostRuntime, reduction: Reduction) -> Result<i64, Fail> {
-    let code = code_of(rt, &Expr::Index(0))?;
-    let piece = reducing(rt, from_to(2, 4)?, reduction, code)?;
-    let reads: [Arc<Patch>; 0] = [];
-    if !piece.fits(None, &reads) {
-        return Err(Fail::from("no fit"));
-    }
-    let nothing: Option<&mut Patch> = None;
-    let Outcome::Value(partial) = run_piece(&piece, nothing, &reads) else {
-        return Err(Fail::from("no value"));
-    };
-    if partial.count() == 0 {
-        return Err(Fail::from("no numbers"));
-    }
-    partial.finish().map_err(|_| Fail::from("a fault"))
+    Some((fault, numbers))
 }
 
 #[test]
-fn reductions_of_three_numbers(rt: HostRuntime) -> Result<(), Fail> {
-    assert_eq!(rt; reduced(&rt, Reduction::Sum)?, 9);
-    assert_eq!(rt; reduced(&rt, Reduction::Min)?, 2);
-    Ok(())
+fn a_fault_is_named_by_its_position_in_the_statement(rt: HostRuntime) {
+    let fault = Some((Cell::of1(2), FaultKind::ZeroDivisor));
+    let numbers = [Some(0), Some(5), Some(0), Some(0), Some(0), Some(0)];
+    assert!(rt; quotients(rt.alloc(), 1, 3) == Some((fault, numbers)));
+}
+
+#[test]
+fn positions_without_a_fault_are_all_set(rt: HostRuntime) {
+    let numbers = [Some(0), Some(0), Some(0), Some(-5), Some(-2), Some(-1)];
+    assert!(rt; quotients(rt.alloc(), 3, 7) == Some((None, numbers)));
+}
+
+// What a reduction of the position's number from 2 to 4 comes to.
+fn reduced(alloc: Global, reduction: Reduction) -> Option<i64> {
+    let code = code_of(alloc, Ok(Expr::Index(0)))?;
+    let piece = reducing(alloc, from_to(2, 4)?, reduction, code)?;
+    let reads: [Arc<Patch>; 0] = [];
+    if !piece.fits(None, &reads) {
+        return None;
+    }
+    let nothing: Option<&mut Patch> = None;
+    match run_piece(&piece, nothing, &reads) {
+        Outcome::Value(partial) if partial.count() > 0 => partial.finish().ok(),
+        _ => None,
+    }
+}
+
+#[test]
+fn reductions_of_three_numbers(rt: HostRuntime) {
+    assert!(rt; reduced(rt.alloc(), Reduction::Sum) == Some(9));
+    assert!(rt; reduced(rt.alloc(), Reduction::Min) == Some(2));
 }

@@ -1,11 +1,10 @@
-ghost use Rattle.std.specs.Prelude.{◌≡◌, ◌+◌, ◌<◌, [], ◌∷◌, IfOk, OnOk, length, map, true};
+ghost use Rattle.std.specs.Prelude.{◌≡◌, ◌+◌, ◌<◌, [], ◌∷◌, IfSome, length, map, true};
 ghost use Rattle.std.specs.Arc.{arc_value};
 
 use pooma_machine::{Machine, Mode, Request, Work};
 use std::alloc::{AllocError, Global};
 use std::slice;
 use std::sync::Arc;
-use std::test::Fail;
 
 // A number of some unit, which can be written once it is unfolded.
 #[derive(Drop)]
@@ -77,77 +76,105 @@ impl Work for Double {
 }
 
 // A machine of one amount.
-fn opened(rt: &HostRuntime, amount: Arc<Amount>) -> Result<Machine<Double>, Fail>
-    ensures plan { IfOk result (λ machine. length machine.plan ≡ 0) }
-    ensures opening { IfOk result (λ machine. machine.opening ≡ ((arc_value amount).unit, (arc_value amount).number) ∷ []) }
+fn opened(alloc: Global, amount: Arc<Amount>) -> Option<Machine<Double>>
+    ensures plan { IfSome result (λ machine. length machine.plan ≡ 0) }
+    ensures opening { IfSome result (λ machine. machine.opening ≡ ((arc_value amount).unit, (arc_value amount).number) ∷ []) }
 {
-    let mut amounts = Vec::new(rt.alloc());
-    amounts.push(amount)?;
-    match Machine::new(rt.alloc(), amounts) {
-        Ok(machine) => Ok(machine),
-        Err(_) => Err(Fail::from("no memory")),
-    }
+    let mut amounts = Vec::new(alloc);
+    amounts.push(amount).ok()?;
+    Machine::new(alloc, amounts).ok()
 }
 
 // Requests, dispatches, performs and releases an entry over the machine's amount, which has this unit. Answers its number.
-fn run(rt: &HostRuntime, machine: &mut Machine<Double>, unit: u32, mode: Mode) -> Result<u32, Fail>
+fn run(alloc: Global, machine: &mut Machine<Double>, unit: u32, mode: Mode) -> Option<u32>
     requires unit { map (λ amount. amount.0) machine.old.opening ≡ unit ∷ [] }
     requires few { length machine.old.plan < 100 }
-    ensures plan { OnOk result (length machine.new.plan ≡ length machine.old.plan + 1) }
+    ensures plan { IfSome result (λ entry. length machine.new.plan ≡ length machine.old.plan + 1) }
     ensures opening { machine.new.opening ≡ machine.old.opening }
 {
     let asks = Request { object: 0, mode };
-    let work = Arc::new(rt.alloc(), Double { unit, asks })?;
-    let Ok(entry) = machine.request(rt.alloc(), 0, work) else {
-        return Err(Fail::from("no memory"));
-    };
-    let Ok(loan) = machine.dispatch(rt.alloc(), 0, entry) else {
-        return Err(Fail::from("not dispatched"));
-    };
+    let work = Arc::new(alloc, Double { unit, asks }).ok()?;
+    let entry = machine.request(alloc, 0, work).ok()?;
+    let loan = machine.dispatch(alloc, 0, entry).ok()?;
     machine.release(0, loan.perform());
-    Ok(entry)
+    Some(entry)
 }
 
-fn folded(rt: &HostRuntime) -> Result<Arc<Amount>, Fail>
-    ensures { IfOk result (λ amount. arc_value amount ≡ record { unit = 3; number = 7; folded = true }) }
+fn folded(alloc: Global) -> Option<Arc<Amount>>
+    ensures { IfSome result (λ amount. arc_value amount ≡ record { unit = 3; number = 7; folded = true }) }
 {
-    Ok(Arc::new(
-        rt.alloc(),
-        Amount {
-            unit: 3,
-            number: 7,
-            folded: true,
-        },
-    )?)
+    let amount = Amount {
+        unit: 3,
+        number: 7,
+        folded: true,
+    };
+    Arc::new(alloc, amount).ok()
+}
+
+// The amount's number and whether it is folded, when all was released.
+fn end(alloc: Global, machine: Machine<Double>) -> Option<(u64, bool)> {
+    if !machine.all_released() {
+        return None;
+    }
+    match machine.finish(alloc).ok()?.as_slice() {
+        [amount] => Some((amount.number, amount.folded)),
+        _ => None,
+    }
+}
+
+// The outcomes of a read and a write of a folded amount, and that amount in the end.
+fn read_and_written(alloc: Global) -> Option<([Option<(u64, bool)>; 2], Option<(u64, bool)>)> {
+    let mut machine = opened(alloc, folded(alloc)?)?;
+    let read = run(alloc, &mut machine, 3, Mode::Read)?;
+    let write = run(alloc, &mut machine, 3, Mode::Write)?;
+    let outcomes = [
+        machine.outcome(read).copied(),
+        machine.outcome(write).copied(),
+    ];
+    Some((outcomes, end(alloc, machine)))
 }
 
 #[test]
-fn a_value_that_is_written_is_first_unfolded(rt: HostRuntime) -> Result<(), Fail> {
-    let mut machine = opened(&rt, folded(&rt)?)?;
-    let read = run(&rt, &mut machine, 3, Mode::Read)?;
-    let write = run(&rt, &mut machine, 3, Mode::Write)?;
-    assert_eq!(rt; machine.outcome(read).copied(), Some((7, false)));
-    assert_eq!(rt; machine.outcome(write).copied(), Some((7, true)));
-    assert!(rt; machine.all_released());
-    let amounts = machine.finish(rt.alloc())?;
-    assert_eq!(rt; amounts[0].number, 14);
-    assert!(rt; !amounts[0].folded);
-    Ok(())
+fn a_value_that_is_written_is_first_unfolded(rt: HostRuntime) {
+    let outcomes = [Some((7, false)), Some((7, true))];
+    assert!(rt; read_and_written(rt.alloc()) == Some((outcomes, Some((14, false)))));
+}
+
+// The outcomes of two writes of an amount, and that amount in the end.
+fn written_twice(
+    alloc: Global,
+    amount: Arc<Amount>,
+) -> Option<([Option<(u64, bool)>; 2], Option<(u64, bool)>)>
+    requires { (arc_value amount).unit ≡ 3 }
+{
+    let mut machine = opened(alloc, amount)?;
+    let write = run(alloc, &mut machine, 3, Mode::Write)?;
+    let again = run(alloc, &mut machine, 3, Mode::Write)?;
+    let outcomes = [
+        machine.outcome(write).copied(),
+        machine.outcome(again).copied(),
+    ];
+    Some((outcomes, end(alloc, machine)))
+}
+
+// The same of an amount that another owner keeps, and what that one has then.
+fn kept_and_written(
+    alloc: Global,
+) -> Option<
+    (
+        Option<([Option<(u64, bool)>; 2], Option<(u64, bool)>)>,
+        (u64, bool),
+    ),
+> {
+    let amount = folded(alloc)?;
+    let kept = Arc::try_clone(&amount).ok()?;
+    let written = written_twice(alloc, amount);
+    Some((written, (kept.number, kept.folded)))
 }
 
 #[test]
-fn a_value_that_another_owner_keeps_is_copied_for_its_writer(rt: HostRuntime) -> Result<(), Fail> {
-    let amount = folded(&rt)?;
-    let kept = Arc::try_clone(&amount)?;
-    let mut machine = opened(&rt, amount)?;
-    let write = run(&rt, &mut machine, 3, Mode::Write)?;
-    let again = run(&rt, &mut machine, 3, Mode::Write)?;
-    assert_eq!(rt; machine.outcome(write).copied(), Some((7, true)));
-    assert_eq!(rt; machine.outcome(again).copied(), Some((14, true)));
-    assert!(rt; machine.all_released());
-    let amounts = machine.finish(rt.alloc())?;
-    assert_eq!(rt; amounts[0].number, 28);
-    assert_eq!(rt; kept.number, 7);
-    assert!(rt; kept.folded);
-    Ok(())
+fn a_value_that_another_owner_keeps_is_copied_for_its_writer(rt: HostRuntime) {
+    let outcomes = [Some((7, true)), Some((14, true))];
+    let written = Some((outcomes, Some((28, false))));
+    assert!(rt; kept_and_written(rt.alloc()) == Some((written, (7, true))));
 }
