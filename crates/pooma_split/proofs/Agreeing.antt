@@ -1,7 +1,7 @@
 -- What positions make, where two ways to find their values agree at each of them.
-use Rattle.std.proofs.Common.{refl, sym, ap, ◌∙◌, subst, inl, inr, ⊎_elim, arith, cond, take}
-use Rattle.std.specs.List.{cons_option, filter_map, position_or_len}
-use Rattle.std.specs.Prelude.{◌≡◌, ◌⊎◌, ℕ, zero, suc, ◌+◌, ℤ, Bool, not, Option, Some, None, Ok, Err, is_err, List, [], ◌∷◌, slice_get}
+use Rattle.std.proofs.Common.{refl, ap, ◌∙◌, subst, inl, inr, ⊎_elim, cond, take}
+use Rattle.std.specs.List.{cons_option, position_or_len}
+use Rattle.std.specs.Prelude.{◌≡◌, ℕ, zero, suc, ◌+◌, ℤ, not, Ok, Err, is_err, List, [], ◌∷◌}
 use Rattle.pooma_view.specs.declared.slots.Slot.{Slot}
 use Rattle.pooma_view.specs.Slots.{cell_named}
 use Rattle.pooma_field.specs.Numbered.{Change}

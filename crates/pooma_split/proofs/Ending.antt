@@ -1,9 +1,7 @@
 -- What the pieces of an assignment come to.
 use Rattle.std.proofs.Common.{refl, sym, ap, ◌∙◌, subst, inl, inr, ⊎_elim, arith, cond, take}
-use Rattle.std.proofs.lemmas.List.{append-nil}
-use Rattle.std.proofs.lemmas.List.Elements.{All-head, All-tail}
 use Rattle.std.specs.List.{filter_map, position_or_len}
-use Rattle.std.specs.Prelude.{◌≡◌, ◌⊎◌, ℕ, suc, ◌+◌, ℤ, Bool, not, Option, None, Some, Ok, Err, is_err, List, [], ◌∷◌, ◌++◌, length, map, fold, slice_get, All}
+use Rattle.std.specs.Prelude.{◌≡◌, ℕ, suc, ◌+◌, ℤ, not, Option, None, Ok, Err, is_err, List, [], ◌∷◌, length, map, fold, slice_get, All}
 use Rattle.pooma_domain.specs.Cells.{Interval, cells_of, IsIn}
 use Rattle.pooma_domain.proofs.Within.{length_of_cell}
 use Rattle.pooma_view.specs.Slots.{positions_of}
@@ -13,9 +11,9 @@ use Rattle.pooma_field.specs.Worlds.{World, array_of, changed}
 use Rattle.pooma_expr.specs.declared.tree.Expr.{Expr}
 use Rattle.pooma_expr.specs.Trees.{bound, views_of}
 use Rattle.pooma_expr.specs.Values.{Checked}
-use Rattle.pooma_law.specs.Ser.{Results, at_first, with_work}
+use Rattle.pooma_law.specs.Ser.{Results, at_first}
 use Rattle.pooma_model.specs.declared.statement.Action.TheVariants as action
-use Rattle.pooma_model.specs.Assigning.{Becomes, Effect, Faults, Given, assigned, fault_of, found_or, given_at, given_by, whole_value}
+use Rattle.pooma_model.specs.Assigning.{Becomes, assigned, fault_of, found_or, given_at, given_by, whole_value}
 use Rattle.pooma_model.specs.Declarations.{Declared, value_in}
 use Rattle.pooma_model.specs.Fit.{IsAssignFit}
 use Rattle.pooma_model.specs.Partitions.{IsPartition, changed_in_turn, changes_at, fault_at}
@@ -27,14 +25,13 @@ use Rattle.pooma_piece.specs.declared.outcome.Outcome.TheVariants.{Done}
 use Rattle.pooma_piece.specs.declared.task.Task.{Task}
 use Rattle.pooma_piece.specs.declared.task.Task.TheVariants as task
 use Rattle.pooma_piece.specs.Effects.{before_fault, fault_or, first_fault_or}
-use Rattle.pooma_piece.specs.Meaning.{pieces}
 use Rattle.pooma_piece.specs.Pieces.{Pieced}
-use Rattle.pooma_piece.specs.Plans.{Faulted, faults_of, or_earlier, plan_fault}
+use Rattle.pooma_piece.specs.Plans.{or_earlier, plan_fault}
 use Rattle.pooma_split.specs.Gathered.{HasLaws}
 use Rattle.pooma_split.specs.Splits.{piece_of, pieces_of}
-use Rattle.pooma_split.specs.Statements.{ComesTo, HasView, Stands, as_fault, done_in_order, fault_among}
-use Rattle.pooma_split.proofs.Faulting.{answer_of, fault_for, faults_are, judged}
-use Rattle.pooma_split.proofs.Turning.{Came, Goes, answer_for, boxes, code, done_at, next_world, turn, value_of}
+use Rattle.pooma_split.specs.Statements.{ComesTo, Stands, as_fault, done_in_order, fault_among}
+use Rattle.pooma_split.proofs.Faulting.{fault_for, faults_are, judged}
+use Rattle.pooma_split.proofs.Turning.{Came, Goes, boxes, next_world, turn}
 
 -- where no position has a fault, all of them are done
 pub all_done : (value : List ℤ → Checked) (ps : List (List ℤ)) → fault_at (λ p. given_by (value p)) ps ≡ None → before_fault value ps ≡ ps

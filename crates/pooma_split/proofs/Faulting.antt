@@ -1,23 +1,22 @@
 -- The earliest fault among what the pieces of boxes answer is the least of the boxes' faults.
-use Rattle.std.proofs.Common.{refl, sym, ap, ◌∙◌, subst, inl, inr, ⊎_elim, arith, cond, get_or}
-use Rattle.std.proofs.lemmas.Bool.{eqb-true, false≢true}
+use Rattle.std.proofs.Common.{refl, sym, ap, ◌∙◌, subst, inl, inr, ⊎_elim, arith, cond}
+use Rattle.std.proofs.lemmas.Bool.{false≢true}
 use Rattle.std.proofs.lemmas.Bool.Decides.{Decides-int_eq}
 use Rattle.std.proofs.lemmas.Int.{ints, by_lt_z}
 use Rattle.std.specs.List.{cons_option, filter_map}
 use Rattle.std.specs.Ordering.{int_eq}
-use Rattle.std.specs.Prelude.{◌≡◌, ◌⊎◌, ℕ, suc, ◌==◌, nat_lt, ℤ, int_lt, ◌≤ℤ◌, ◌<ℤ◌, Bool, true, false, ◌&&◌, ◌||◌, Option, None, Some, IfSome, Ok, Err, List, [], ◌∷◌, length, map, fold, slice_get, All, Any}
+use Rattle.std.specs.Prelude.{◌≡◌, ◌⊎◌, ℕ, ◌==◌, nat_lt, ℤ, int_lt, ◌≤ℤ◌, ◌<ℤ◌, Bool, true, false, ◌&&◌, ◌||◌, Option, None, Some, IfSome, Ok, Err, List, [], ◌∷◌, length, map, fold, All}
 use Rattle.pooma_domain.specs.Cells.{Interval, IsBefore, cells_of}
 use Rattle.pooma_field.specs.Numbered.{is_same_cell}
 use Rattle.pooma_expr.specs.Values.{Checked}
-use Rattle.pooma_num.specs.declared.fault.FaultKind.{FaultKind}
-use Rattle.pooma_model.specs.Assigning.{Fault, Given, Position, fault_of, found_or, given_by}
+use Rattle.pooma_model.specs.Assigning.{Given, fault_of, found_or, given_by}
 use Rattle.pooma_model.specs.Partitions.{IsLeastFault, IsNotEarlier, fault_at}
-use Rattle.pooma_model.proofs.Lists.{Member, stands_at}
+use Rattle.pooma_model.proofs.Lists.{Member}
 use Rattle.pooma_model.proofs.Partitioning.{of_any}
 use Rattle.pooma_part.proofs.Dividing.{all_members}
 use Rattle.pooma_piece.specs.declared.outcome.Outcome.{Outcome}
 use Rattle.pooma_piece.specs.Effects.{fault_or, first_fault_or}
-use Rattle.pooma_piece.specs.Plans.{Faulted, fault_in, faults_of, is_before, is_earlier, or_earlier, plan_fault}
+use Rattle.pooma_piece.specs.Plans.{Faulted, fault_in, faults_of, is_before, is_earlier, or_earlier}
 use Rattle.pooma_split.specs.Statements.{as_fault}
 
 -- ---- the order of positions

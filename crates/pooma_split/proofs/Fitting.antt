@@ -1,9 +1,9 @@
 -- Each piece fits the areas of its objects' patches.
-use Rattle.std.proofs.Common.{refl, sym, ap, ◌∙◌, subst, inl, inr, ⊎_elim, arith, get_or}
-use Rattle.std.proofs.lemmas.List.Elements.{All-head, All-tail}
+use Rattle.std.proofs.Common.{refl, sym, ap, ◌∙◌, subst, inl, inr, ⊎_elim, arith}
+use Rattle.std.proofs.lemmas.List.Elements.{All-head}
 use Rattle.std.proofs.lemmas.Option.{get_or_from_slice_get, slice_get-get_or, slice_get-map, slice_get_within}
 use Rattle.std.specs.Option.{option_and_then, option_map}
-use Rattle.std.specs.Prelude.{◌≡◌, ℕ, zero, suc, ◌<◌, ℤ, IsTrue, IsSomeAnd, Option, Some, None, List, [], ◌∷◌, length, map, slice_get, All, Contains}
+use Rattle.std.specs.Prelude.{◌≡◌, ℕ, zero, suc, ◌<◌, ℤ, IsSomeAnd, Option, Some, List, [], ◌∷◌, length, map, slice_get, All, Contains}
 use Rattle.pooma_domain.specs.Cells.{Interval, IsBox, IsIn}
 use Rattle.pooma_view.specs.Slots.{cell_named, positions_of}
 use Rattle.pooma_view.specs.Views.{Viewed}
@@ -11,7 +11,6 @@ use Rattle.pooma_layout.specs.Patches.{Owns, allocated_boxes, allocated_of, owne
 use Rattle.pooma_layout.proofs.Owning.{owner_owns}
 use Rattle.pooma_expr.specs.declared.tree.Expr.{Expr}
 use Rattle.pooma_expr.specs.Trees.{bound, views_of}
-use Rattle.pooma_machine.specs.declared.step.Request.{Request}
 use Rattle.pooma_machine.specs.Values.{lent_by}
 use Rattle.pooma_model.specs.declared.statement.Action.{Action}
 use Rattle.pooma_model.specs.declared.statement.Action.TheVariants as action
@@ -26,13 +25,13 @@ use Rattle.pooma_store.proofs.ObjectNumbers.{area_at, length-areas}
 use Rattle.pooma_store.proofs.OwnerNumbers.{some_from}
 use Rattle.pooma_piece.specs.declared.task.Task.{Task}
 use Rattle.pooma_piece.specs.declared.task.Task.TheVariants as task
-use Rattle.pooma_piece.specs.Lent.{HasCells, IsFitting, SetsIn, fits, lent_for, read_in}
+use Rattle.pooma_piece.specs.Lent.{HasCells, IsFitting, SetsIn}
 use Rattle.pooma_piece.specs.Pieces.{Pieced, requests_of}
 use Rattle.pooma_piece.proofs.Naming.{written_is}
 use Rattle.pooma_split.specs.Gathered.{HasLaws}
 use Rattle.pooma_split.specs.Splits.{CanSplit, IsCut, IsPlaced, object_for, piece_of, pieces_of, pieces_with, views_with, written_for}
 use Rattle.pooma_split.proofs.Boxes.{part_within}
-use Rattle.pooma_split.proofs.Lending.{all_known, lent, lent_of_view, piece}
+use Rattle.pooma_split.proofs.Lending.{all_known, lent_of_view}
 use Rattle.pooma_split.proofs.Owning.{owns_cell}
 use Rattle.pooma_split.proofs.Piecing.{IsWithin, first_inside, reads_placed}
 use Rattle.pooma_split.proofs.Placing.{assign_splits, reduce_splits}

@@ -5,36 +5,38 @@ use Rattle.std.proofs.lemmas.Option.{get_or_from_slice_get, slice_get-get_or, sl
 use Rattle.std.proofs.lemmas.List.Sorted.{All-permutation}
 use Rattle.std.specs.List.{filter_map}
 use Rattle.std.specs.List.Sorted.{IsPermutation}
-use Rattle.std.specs.Prelude.{◌≡◌, ◌⊎◌, ℕ, suc, ◌+◌, ◌<◌, ℤ, Bool, true, false, Option, None, Some, List, [], ◌∷◌, ◌++◌, length, map, fold, slice_get, All, Contains}
+use Rattle.std.specs.Int.{w64}
+use Rattle.std.specs.Prelude.{◌≡◌, ◌⊎◌, ℕ, zero, FitsSigned, ◌<◌, ℤ, Bool, true, false, Option, None, Some, List, [], ◌∷◌, ◌++◌, length, map, fold, slice_get, All, Contains}
 use Rattle.pooma_domain.specs.Cells.{Interval, cells_of, IsIn}
-use Rattle.pooma_view.specs.Slots.{cell_named, positions_of}
+use Rattle.pooma_view.specs.Slots.{cell_named}
 use Rattle.pooma_view.specs.Views.{Viewed}
-use Rattle.pooma_field.specs.Numbered.{Numbered}
+use Rattle.pooma_field.specs.Numbered.{Numbered, place_in}
 use Rattle.pooma_field.specs.Shapes.{own_area}
 use Rattle.pooma_field.specs.Worlds.{World}
 use Rattle.pooma_expr.specs.declared.reduction.Reduction.{Reduction}
 use Rattle.pooma_expr.specs.declared.tree.Expr.{Expr}
+use Rattle.pooma_expr.specs.Reductions.{AllFit}
 use Rattle.pooma_expr.specs.Trees.{bound, views_of}
 use Rattle.pooma_expr.specs.Values.{Checked, Contents}
 use Rattle.pooma_expr.proofs.Bound.{value_bound, views_bound}
 use Rattle.pooma_machine.specs.Values.{Lent, lent_by, new_value_of, outcome_of, put_back, written_object}
 use Rattle.pooma_law.specs.Ser.{Results, at_first, with_work}
 use Rattle.pooma_model.specs.declared.statement.Action.TheVariants as action
-use Rattle.pooma_model.specs.Assigning.{given_at, given_by}
+use Rattle.pooma_model.specs.Assigning.{given_at}
 use Rattle.pooma_model.specs.Declarations.{Declared, seen_in, shape_at, value_in}
 use Rattle.pooma_model.specs.Fit.{IsReduceFit}
 use Rattle.pooma_model.specs.Midway.{SeesMidway}
-use Rattle.pooma_model.specs.Partitions.{IsPartition, fault_at, numbers_at}
+use Rattle.pooma_model.specs.Partitions.{IsPartition, fault_at, numbers_at, numbers_in_turn}
 use Rattle.pooma_model.specs.Parts.{parts_of}
 use Rattle.pooma_model.specs.Reducing.{reduced}
-use Rattle.pooma_model.proofs.Lists.{Member, contains_of}
+use Rattle.pooma_model.proofs.Lists.{Member, contains_of, member_of}
 use Rattle.pooma_store.specs.Numbering.{object_count}
 use Rattle.pooma_store.proofs.OwnerNumbers.{objects_counted}
 use Rattle.pooma_piece.specs.declared.outcome.Outcome.{Outcome}
 use Rattle.pooma_piece.specs.declared.outcome.Outcome.TheVariants.{Value}
 use Rattle.pooma_piece.specs.declared.task.Task.TheVariants as task
 use Rattle.pooma_piece.specs.Effects.{first_fault_or, kept_of, numbers_over, value_at}
-use Rattle.pooma_piece.specs.Lent.{is_in}
+use Rattle.pooma_piece.specs.Lent.{is_in, number_in}
 use Rattle.pooma_piece.specs.Meaning.{pieces}
 use Rattle.pooma_piece.specs.Pieces.{Pieced, requests_of}
 use Rattle.pooma_piece.specs.Plans.{or_earlier, plan_fault}
@@ -42,16 +44,19 @@ use Rattle.pooma_piece.proofs.Areas.{passes_in}
 use Rattle.pooma_piece.proofs.Naming.{written_is}
 use Rattle.pooma_piece.proofs.Seen.{is_in_is}
 use Rattle.pooma_split.specs.Gathered.{HasLaws}
-use Rattle.pooma_split.specs.Splits.{CanSplit, IsPlaced, piece_of, pieces_of}
-use Rattle.pooma_split.specs.Statements.{GathersTo, HasView, IsOwn, Stands, as_fault, done_in_order, fault_among, value_over}
+use Rattle.pooma_split.specs.Splits.{CanSplit, IsPlaced, object_for, piece_of, pieces_of}
+use Rattle.pooma_split.specs.Statements.{GathersTo, Stands, as_fault, done_in_order, fault_among, value_over}
+use Rattle.pooma_split.specs.Words.{AllWords, IsWord, literals_fit}
 use Rattle.pooma_split.proofs.Agreeing.{AgreeOn, same_first, same_numbers}
 use Rattle.pooma_split.proofs.Boxes.{part_within}
 use Rattle.pooma_split.proofs.Ending.{all_long, no_fault, statements_are}
-use Rattle.pooma_split.proofs.Faulting.{answer_of, fault_for, faults_are, judged}
+use Rattle.pooma_split.proofs.Faulting.{fault_for, faults_are, judged}
+use Rattle.pooma_split.proofs.Lending.{lent_of_view}
 use Rattle.pooma_split.proofs.Owning.{same_object}
 use Rattle.pooma_split.proofs.Piecing.{IsWithin}
 use Rattle.pooma_split.proofs.Placing.{reduce_splits}
 use Rattle.pooma_split.proofs.Seeing.{has, sees}
+use Rattle.pooma_split.proofs.Words.{AnswersWord, index_word, numbers_word, place_word, turns_word, value_word}
 
 in_or_out : (box : List Interval) (c : List ℤ) → IsIn box c ⊎ (¬ (IsIn box c))
 in_or_out box c = by (is_in box c) refl
@@ -182,3 +187,42 @@ module _ (laws : HasLaws) (declared : Declared) (number : ℕ) (scalar : ℕ) (r
     where
       in_order : (order : List (List Interval)) → IsPermutation all_boxes order → All (λ box. fault_at (given_at declared world whole None) (cells_of box) ≡ None) all_boxes → All (λ box. fault_at (given_at declared world whole None) (cells_of box) ≡ None) order
       in_order order moved none = All-permutation (λ box. fault_at (given_at declared world whole None) (cells_of box) ≡ None) all_boxes order moved none
+
+  -- numbers of objects, as the pieces of a box see them
+  module _ (words : AllWords objects) (few : All IsWord world.scalars) (literals : literals_fit whole ≡ true) where
+    content_word : (o : Option Numbered) → ((x : Numbered) → o ≡ Some x → All IsWord x.numbers) → (c : List ℤ) → FitsSigned w64 (number_in o c)
+    content_word None each c = index_word [] (each_of_none) zero
+      where
+        each_of_none : All IsWord []
+        each_of_none j d below = absurd (omega (arith, below))
+    content_word (Some x) each c = index_word x.numbers (each x refl) (place_in x.area c)
+
+    module _ (box : List Interval) (here : Member all_boxes box) where
+      abbrev had : Contents
+      had view c = number_in (slice_get objects (object_for declared box view)) c
+
+      had_word : (view : Viewed) (c : List ℤ) → FitsSigned w64 (had view c)
+      had_word view c =
+          content_word (slice_get objects (object_for declared box view))
+          (λ x at. subst (λ (object : Numbered). All IsWord object.numbers) (get_or_from_slice_get objects (object_for declared box view) x x at)
+          (words (object_for declared box view) x (slice_get_within objects (object_for declared box view) x at))) c
+
+      had_world : (p : List ℤ) → IsIn box p → All (λ view. had view (cell_named view.slots p) ≡ seen_in declared world view (cell_named view.slots p)) (views_of whole)
+      had_world p inside j d less =
+          let view = get_or (views_of whole) j d in
+          let less_too : j < length (views_of code) = omega (arith, less, ap length (views_bound world.scalars whole)) in
+          let there : slice_get (views_of code) j ≡ Some view = slice_get-get_or (views_of code) j d less_too ∙ ap Some (ap (λ views. get_or views j d) (views_bound world.scalars whole)) in
+          ap (λ o. number_in o (cell_named view.slots p)) (sym (lent_of_view declared positions box (within box here) number (task.Reduce reduction) code can objects counted j view there))
+          ∙ sees_world box here p inside j d less
+
+      box_words : AllFit (numbers_at values (cells_of box))
+      box_words = numbers_word values (cells_of box)
+          (λ p m.
+          let inside : IsIn box p = (laws.members box p).0 (contains_of (cells_of box) p m) in
+          subst AnswersWord (laws.by_reads world.scalars had (seen_in declared world) whole p (had_world p inside))
+          (value_word world.scalars had p (index_word world.scalars few) (place_word positions p fit.few_positions.box.whole ((within box here).inside p inside)) had_word whole literals))
+
+    pub order_words : (order : List (List Interval)) → IsPermutation all_boxes order → AllFit (numbers_in_turn values order)
+    order_words order moved =
+        turns_word values order (All-permutation (λ box. AllFit (numbers_at values (cells_of box))) all_boxes order moved
+        (λ j d less. box_words (get_or all_boxes j d) (member_of all_boxes (get_or all_boxes j d) (j, less, get_or_from_slice_get all_boxes j (get_or all_boxes j d) (get_or all_boxes j d) (slice_get-get_or all_boxes j d less)))))

@@ -1,25 +1,24 @@
 -- What objects lend to the piece of a part: for each view the content of the object in which it is read.
-use Rattle.std.proofs.Common.{refl, sym, ap, ◌∙◌, subst, inl, inr, arith, cond, get_or, take, drop}
+use Rattle.std.proofs.Common.{refl, sym, ap, ◌∙◌, subst, inr, cond, take, drop}
 use Rattle.std.proofs.lemmas.List.Elements.{All-append, All-cons, All-drop, All-nil, All-take, All-head, All-tail}
-use Rattle.std.proofs.lemmas.Option.{get_or_from_slice_get, slice_get-get_or, slice_get_within}
+use Rattle.std.proofs.lemmas.Option.{get_or_from_slice_get, slice_get_within}
 use Rattle.std.specs.List.{insert, list_any, prefix_len}
-use Rattle.std.specs.Prelude.{◌≡◌, ℕ, ◌==◌, ◌<◌, nat_lt, ℤ, Bool, true, false, Option, Some, None, List, [], ◌∷◌, length, map, fold, slice_get, All, Contains}
+use Rattle.std.specs.Prelude.{◌≡◌, ℕ, ◌==◌, ◌<◌, nat_lt, Bool, true, false, Option, Some, None, List, [], ◌∷◌, length, map, fold, slice_get, All, Contains}
 use Rattle.pooma_domain.specs.Cells.{Interval}
 use Rattle.pooma_view.specs.Views.{Viewed}
-use Rattle.pooma_field.specs.Numbered.{Numbered, number_at}
 use Rattle.pooma_expr.specs.declared.tree.Expr.{Expr}
 use Rattle.pooma_expr.specs.Trees.{views_of}
 use Rattle.pooma_queue.specs.declared.queue.Mode.TheVariants.{Read, Write}
 use Rattle.pooma_machine.specs.declared.step.Request.{Request}
-use Rattle.pooma_machine.specs.Values.{Lent, lent_by, written_object}
+use Rattle.pooma_machine.specs.Values.{Lent, lent_by}
 use Rattle.pooma_model.specs.Declarations.{Declared}
-use Rattle.pooma_store.specs.Numbering.{object_at, object_count}
+use Rattle.pooma_store.specs.Numbering.{object_count}
 use Rattle.pooma_piece.specs.declared.task.Task.{Task}
 use Rattle.pooma_piece.specs.declared.task.Task.TheVariants as task
-use Rattle.pooma_piece.specs.Lent.{Names, lent_for, number_in, read_in, seen_by}
+use Rattle.pooma_piece.specs.Lent.{lent_for, read_in}
 use Rattle.pooma_piece.specs.Pieces.{Pieced, requests_of}
 use Rattle.pooma_piece.specs.Requests.{request, requests_for, with_read, write_request}
-use Rattle.pooma_piece.proofs.Naming.{lent_is, written_is}
+use Rattle.pooma_piece.proofs.Naming.{lent_is}
 use Rattle.pooma_piece.proofs.Seen.{read_in_is}
 use Rattle.pooma_split.specs.Splits.{CanSplit, IsPlaced, object_for, piece_of, views_with, written_for}
 use Rattle.pooma_split.proofs.Piecing.{IsWithin, object_known, read_alike, read_at, reads_placed}

@@ -11,3 +11,4 @@ pub mod Placing
 pub mod Seeing
 pub mod Turning
 pub mod Walking
+pub mod Words

@@ -1,11 +1,11 @@
 -- In a part each view's cells are owned by one patch.
-use Rattle.std.proofs.Common.{refl, sym, ap, ◌∙◌, subst, arith}
+use Rattle.std.proofs.Common.{ap, subst, arith}
 use Rattle.std.proofs.lemmas.Int.{ints}
-use Rattle.std.specs.Prelude.{◌≡◌, ℕ, ◌<◌, ℤ, List, [], ◌∷◌, length, map, Contains}
+use Rattle.std.specs.Prelude.{◌≡◌, ℤ, List, [], ◌∷◌, map, Contains}
 use Rattle.pooma_domain.specs.Cells.{Interval, IsIn}
-use Rattle.pooma_view.specs.Slots.{cell_named, positions_of}
+use Rattle.pooma_view.specs.Slots.{cell_named}
 use Rattle.pooma_view.specs.Views.{Viewed}
-use Rattle.pooma_layout.specs.Patches.{owner_of, total_of, Owns}
+use Rattle.pooma_layout.specs.Patches.{owner_of, Owns}
 use Rattle.pooma_layout.proofs.Owning.{owner_owns, same_owner}
 use Rattle.pooma_layout.proofs.Stepping.{owner_below}
 use Rattle.pooma_model.specs.Declarations.{Declared, layout_at}

@@ -6,7 +6,7 @@ use Rattle.std.proofs.lemmas.List.Elements.{All-cons, All-head, All-tail, All-ni
 use Rattle.std.proofs.lemmas.Nat.{mul-le}
 use Rattle.std.proofs.lemmas.Option.{get_or_from_slice_get, same_Some, slice_get-map, slice_get_within}
 use Rattle.std.specs.Option.{option_map}
-use Rattle.std.specs.Prelude.{◌≡◌, ℕ, ◌*◌, ◌<◌, ◌≤◌, ℤ, ◌≤ℤ◌, is_some, Option, Some, None, List, [], ◌∷◌, ◌++◌, length, map, slice_get, All, Contains}
+use Rattle.std.specs.Prelude.{◌≡◌, ℕ, ◌<◌, ◌≤◌, ℤ, is_some, Option, Some, List, [], ◌∷◌, ◌++◌, length, map, slice_get, All, Contains}
 use Rattle.pooma_domain.specs.Cells.{Interval, axis_length, cells_of, IsAxis, IsBox, IsIn}
 use Rattle.pooma_domain.proofs.CellOrder.{length-cells_of}
 use Rattle.pooma_domain.proofs.PaddedBox.{length_of_axis}
@@ -16,14 +16,14 @@ use Rattle.pooma_view.specs.Views.{Viewed}
 use Rattle.pooma_layout.specs.Patches.{owner_of, total_of}
 use Rattle.pooma_layout.proofs.Stepping.{owner_below}
 use Rattle.pooma_expr.specs.declared.tree.Expr.{Expr}
-use Rattle.pooma_expr.specs.Trees.{axes_needed, views_of}
+use Rattle.pooma_expr.specs.Trees.{views_of}
 use Rattle.pooma_model.specs.Declarations.{Declared, layout_at}
 use Rattle.pooma_model.specs.Partitions.{IsPartition}
 use Rattle.pooma_store.specs.Numbering.{object_count}
 use Rattle.pooma_store.proofs.ObjectNumbers.{object_there, objects_apart}
 use Rattle.pooma_piece.specs.declared.task.Task.{Task}
 use Rattle.pooma_piece.specs.declared.task.Task.TheVariants as task
-use Rattle.pooma_piece.specs.Pieces.{AreApart, AreOfTarget, AreOwn, AreReadAlike, AreReads, HasPositions, IsPiece, MOST_POSITIONS, Pieced, sets_cells}
+use Rattle.pooma_piece.specs.Pieces.{AreOfTarget, AreOwn, AreReadAlike, AreReads, HasPositions, IsPiece, Pieced, sets_cells}
 use Rattle.pooma_split.specs.Splits.{CanSplit, IsCut, IsPlaced, object_for, piece_of, views_with, written_for}
 
 -- ---- a box of some of the positions

@@ -1,10 +1,10 @@
 -- The views of an action that fits, over the layouts of their arrays.
-use Rattle.std.proofs.Common.{refl, sym, ap, ◌∙◌, subst, arith, get_or}
+use Rattle.std.proofs.Common.{refl, sym, ap, subst, arith, get_or}
 use Rattle.std.proofs.lemmas.Int.{ints}
 use Rattle.std.proofs.lemmas.List.{length-map}
-use Rattle.std.proofs.lemmas.List.Elements.{All-cons, All-head, All-tail}
+use Rattle.std.proofs.lemmas.List.Elements.{All-cons}
 use Rattle.std.specs.Option.{option_map_or}
-use Rattle.std.specs.Prelude.{◌≡◌, ℕ, zero, suc, ◌<◌, ◌≤◌, ℤ, ◌≤ℤ◌, Option, Some, None, List, [], ◌∷◌, length, slice_get, All}
+use Rattle.std.specs.Prelude.{◌≡◌, ℕ, suc, ◌<◌, ℤ, Option, Some, None, List, [], ◌∷◌, length, slice_get, All}
 use Rattle.pooma_domain.specs.Cells.{Interval, IsIn}
 use Rattle.pooma_view.specs.Overlap.{IsOverlap}
 use Rattle.pooma_view.specs.Slots.{cell_named, positions_of}
@@ -12,13 +12,12 @@ use Rattle.pooma_view.specs.Views.{Viewed}
 use Rattle.pooma_field.specs.declared.faces.Ends.{Ends}
 use Rattle.pooma_field.specs.Shapes.{Shaped, IsAround, IsShape, own_area}
 use Rattle.pooma_layout.specs.Axes.{total_axis}
-use Rattle.pooma_layout.specs.Patches.{total_of}
 use Rattle.pooma_expr.specs.declared.reduction.Reduction.{Reduction}
 use Rattle.pooma_expr.specs.declared.tree.Expr.{Expr}
-use Rattle.pooma_expr.specs.Trees.{axes_needed, bound, views_of}
+use Rattle.pooma_expr.specs.Trees.{bound, views_of}
 use Rattle.pooma_expr.proofs.Bound.{axes_bound, views_bound}
 use Rattle.pooma_model.specs.Declarations.{Declared, layout_at, shape_at}
-use Rattle.pooma_model.specs.Fit.{IsAssignFit, IsReduceFit, IsReadable, IsWritable, LiesIn, ReadsApart}
+use Rattle.pooma_model.specs.Fit.{IsAssignFit, IsReduceFit, IsReadable, IsWritable, LiesIn}
 use Rattle.pooma_store.specs.Stored.{AreArrays, Fits, Stored}
 use Rattle.pooma_piece.specs.declared.task.Task.{Task}
 use Rattle.pooma_piece.specs.declared.task.Task.TheVariants as task

@@ -1,31 +1,28 @@
 -- What the piece of a part sees: the numbers that the world has on the way, and those of the world before in external cells.
-use Rattle.std.proofs.Common.{refl, sym, ap, ◌∙◌, subst, inl, inr, ⊎_elim, arith, get_or}
-use Rattle.std.proofs.lemmas.Option.{get_or_from_slice_get, slice_get-get_or, slice_get_within}
+use Rattle.std.proofs.Common.{refl, sym, ap, ◌∙◌, subst}
+use Rattle.std.proofs.lemmas.Option.{slice_get-get_or}
 use Rattle.std.specs.Option.{option_map_or}
-use Rattle.std.specs.Prelude.{◌≡◌, ◌⊎◌, ℕ, ◌<◌, ℤ, pos, Option, Some, None, IsSome, List, [], ◌∷◌, length, slice_get, All, Contains}
+use Rattle.std.specs.Prelude.{◌≡◌, ℕ, ◌<◌, ℤ, Option, Some, None, IsSome, List, [], length, slice_get}
 use Rattle.pooma_domain.specs.Cells.{Interval, IsIn}
 use Rattle.pooma_view.specs.Slots.{cell_named, positions_of}
 use Rattle.pooma_view.specs.Views.{Viewed}
 use Rattle.pooma_field.specs.declared.faces.Ends.{Ends}
 use Rattle.pooma_field.specs.Numbered.{Numbered, number_at}
 use Rattle.pooma_field.specs.Shapes.{Shaped, own_area}
-use Rattle.pooma_field.specs.Worlds.{World, HasCell, look_in, number_of}
-use Rattle.pooma_layout.specs.Patches.{total_of}
+use Rattle.pooma_field.specs.Worlds.{World, look_in, number_of}
 use Rattle.pooma_expr.specs.declared.tree.Expr.{Expr}
-use Rattle.pooma_expr.specs.Trees.{bound, views_of}
-use Rattle.pooma_expr.specs.Values.{Contents, value}
+use Rattle.pooma_expr.specs.Trees.{views_of}
+use Rattle.pooma_expr.specs.Values.{Contents}
 use Rattle.pooma_model.specs.Declarations.{Declared, layout_at, shape_at}
 use Rattle.pooma_model.specs.Midway.{SeesMidway}
-use Rattle.pooma_model.specs.Parts.{parts_of}
 use Rattle.pooma_store.specs.Numbering.{object_at, object_count}
-use Rattle.pooma_store.specs.Standing.{HasNumber, HasTotal, IsField, IsFresh, OwnerHas, StandsFor, owner_object}
+use Rattle.pooma_store.specs.Standing.{HasNumber, IsField, OwnerHas, StandsFor, owner_object}
 use Rattle.pooma_store.specs.Stored.{AreArrays, Fits}
 use Rattle.pooma_piece.specs.declared.task.Task.{Task}
-use Rattle.pooma_piece.specs.Lent.{lent_for, number_in, read_in, seen_by}
-use Rattle.pooma_split.specs.Splits.{CanSplit, IsPlaced, object_for, piece_of, views_with}
-use Rattle.pooma_split.specs.Statements.{HasView, IsFreshFor, IsOwn}
+use Rattle.pooma_piece.specs.Lent.{number_in, seen_by}
+use Rattle.pooma_split.specs.Splits.{CanSplit, IsPlaced, object_for}
+use Rattle.pooma_split.specs.Statements.{HasView, IsFreshFor}
 use Rattle.pooma_split.proofs.Lending.{lent, lent_of_view, piece}
-use Rattle.pooma_split.proofs.Owning.{same_object}
 use Rattle.pooma_split.proofs.Piecing.{IsWithin}
 
 -- an array with a cell beyond its own area is a field, and the cell is none of its physical ones

@@ -1,10 +1,10 @@
 -- The pieces of an assignment, done one after another.
-use Rattle.std.proofs.Common.{refl, sym, ap, ◌∙◌, subst, inl, inr, ⊎_elim, arith, get_or, append_assoc}
-use Rattle.std.proofs.lemmas.List.Elements.{All-cons, All-head, All-tail}
+use Rattle.std.proofs.Common.{refl, sym, ap, ◌∙◌, subst, ⊎_elim, arith, get_or, append_assoc}
+use Rattle.std.proofs.lemmas.List.Elements.{All-head, All-tail}
 use Rattle.std.proofs.lemmas.List.{append-nil, length-set}
 use Rattle.std.proofs.lemmas.Option.{get_or_from_slice_get, slice_get-get_or, slice_get_within}
 use Rattle.std.specs.Option.{option_and_then, option_map, option_map_or}
-use Rattle.std.specs.Prelude.{◌≡◌, ◌≢◌, ◌⊎◌, ℕ, zero, suc, ◌+◌, ◌<◌, ℤ, Option, Some, None, IsSome, List, [], ◌∷◌, ◌++◌, length, map, fold, flat_map, slice_get, All, Contains}
+use Rattle.std.specs.Prelude.{◌≡◌, ℕ, zero, suc, ◌+◌, ◌<◌, ℤ, Option, Some, None, IsSome, List, [], ◌∷◌, ◌++◌, length, map, fold, slice_get, All, Contains}
 use Rattle.pooma_domain.specs.Cells.{Interval, cells_of, IsIn}
 use Rattle.pooma_view.specs.Slots.{cell_named, positions_of}
 use Rattle.pooma_view.specs.Views.{Viewed}
@@ -15,7 +15,7 @@ use Rattle.pooma_field.specs.Worlds.{World, HasCell, array_of, changed}
 use Rattle.pooma_layout.specs.Patches.{Owns, owner_of}
 use Rattle.pooma_expr.specs.declared.tree.Expr.{Expr}
 use Rattle.pooma_expr.specs.Trees.{bound, views_of}
-use Rattle.pooma_expr.specs.Values.{Checked, Contents, value}
+use Rattle.pooma_expr.specs.Values.{Checked}
 use Rattle.pooma_expr.proofs.Bound.{value_bound, views_bound}
 use Rattle.pooma_machine.specs.Values.{Lent, lent_by, new_value_of, outcome_of, put_back, written_object}
 use Rattle.pooma_law.specs.Ser.{Results, with_work}
@@ -25,9 +25,9 @@ use Rattle.pooma_model.specs.Fit.{IsAssignFit}
 use Rattle.pooma_model.specs.Midway.{IsMidway, SeesMidway}
 use Rattle.pooma_model.specs.Partitions.{IsOfOthers, IsPartition, changes_at}
 use Rattle.pooma_model.specs.Parts.{parts_of}
-use Rattle.pooma_model.proofs.Lists.{Member, contains_of, member_at, member_cases, member_of}
-use Rattle.pooma_store.specs.Numbering.{AreObjects, EachCell, HasPatch, changed_at, object_at, object_count, object_of}
-use Rattle.pooma_store.specs.Standing.{IsFresh, StandsFor}
+use Rattle.pooma_model.proofs.Lists.{Member, contains_of, member_at, member_cases}
+use Rattle.pooma_store.specs.Numbering.{AreObjects, EachCell, HasPatch, changed_at, object_at, object_count}
+use Rattle.pooma_store.specs.Standing.{StandsFor}
 use Rattle.pooma_store.specs.Stored.{AreArrays}
 use Rattle.pooma_store.proofs.OwnerNumbers.{objects_counted}
 use Rattle.pooma_piece.specs.declared.outcome.Outcome.{Outcome}
@@ -38,13 +38,12 @@ use Rattle.pooma_piece.specs.Meaning.{pieces}
 use Rattle.pooma_piece.specs.Pieces.{Pieced, requests_of}
 use Rattle.pooma_piece.proofs.Naming.{written_is}
 use Rattle.pooma_split.specs.Gathered.{HasLaws}
-use Rattle.pooma_split.specs.Splits.{CanSplit, IsPlaced, object_for, piece_of, views_with}
-use Rattle.pooma_split.specs.Statements.{HasView, IsFreshFor, IsOwn}
+use Rattle.pooma_split.specs.Splits.{CanSplit, IsPlaced, object_for, piece_of}
+use Rattle.pooma_split.specs.Statements.{HasView, IsFreshFor}
 use Rattle.pooma_split.proofs.Agreeing.{AgreeOn, before_member, change_cells, same_before, same_changes, same_first}
 use Rattle.pooma_split.proofs.Boxes.{part_within}
-use Rattle.pooma_split.proofs.Lending.{lent, piece}
 use Rattle.pooma_split.proofs.Owning.{has_patch, owns_cell, same_object}
-use Rattle.pooma_split.proofs.Piecing.{IsWithin, first_inside, object_known, reads_placed}
+use Rattle.pooma_split.proofs.Piecing.{IsWithin, first_inside, object_known}
 use Rattle.pooma_split.proofs.Placing.{assign_splits}
 use Rattle.pooma_split.proofs.Seeing.{has, sees}
 

@@ -1,5 +1,5 @@
 -- Lists that a walk over another list makes.
-use Rattle.std.proofs.Common.{sym, ap, ◌∙◌, subst, get_or, take}
+use Rattle.std.proofs.Common.{sym, ap, ◌∙◌, get_or, take}
 use Rattle.std.proofs.lemmas.List.{take_all}
 use Rattle.std.proofs.lemmas.Option.{slice_get-get_or}
 use Rattle.std.specs.Prelude.{◌≡◌, ℕ, ◌+◌, ◌<◌, ◌≤◌, Some, List, [], ◌∷◌, ◌++◌, length, map, slice_get}

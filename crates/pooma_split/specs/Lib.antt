@@ -1,3 +1,4 @@
 pub mod Gathered
 pub mod Splits
 pub mod Statements
+pub mod Words

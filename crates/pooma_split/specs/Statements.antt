@@ -1,5 +1,5 @@
 -- What the pieces of a statement, done in order, come to.
-use Rattle.std.specs.Prelude.{◌≡◌, ◌⊎◌, ℕ, ℤ, Option, Some, None, List, length, map, All}
+use Rattle.std.specs.Prelude.{◌≡◌, ℕ, ℤ, Option, Some, None, List, map, All}
 use Rattle.std.specs.List.Sorted.{IsPermutation}
 use Rattle.pooma_domain.specs.Cells.{Interval, cells_of, IsIn}
 use Rattle.pooma_view.specs.Slots.{cell_named, positions_of}
@@ -9,8 +9,7 @@ use Rattle.pooma_field.specs.Shapes.{own_area}
 use Rattle.pooma_field.specs.Worlds.{World, HasCell}
 use Rattle.pooma_expr.specs.declared.reduction.Reduction.{Reduction}
 use Rattle.pooma_expr.specs.declared.tree.Expr.{Expr}
-use Rattle.pooma_expr.specs.Reductions.{AllFit, StandsFor as Totals, result_over}
-use Rattle.pooma_machine.specs.Values.{Meaning}
+use Rattle.pooma_expr.specs.Reductions.{AllFit, result_over}
 use Rattle.pooma_law.specs.Ser.{Results, ser}
 use Rattle.pooma_model.specs.Assigning.{Becomes, Effect, Fault, Faults, Position}
 use Rattle.pooma_model.specs.Declarations.{Declared, shape_at, value_in}
@@ -20,7 +19,7 @@ use Rattle.pooma_store.specs.Numbering.{AreObjects}
 use Rattle.pooma_store.specs.Standing.{IsFresh, StandsFor}
 use Rattle.pooma_store.specs.Stored.{AreArrays}
 use Rattle.pooma_piece.specs.declared.outcome.Outcome.{Outcome}
-use Rattle.pooma_piece.specs.declared.outcome.Outcome.TheVariants.{Done, Value}
+use Rattle.pooma_piece.specs.declared.outcome.Outcome.TheVariants.{Value}
 use Rattle.pooma_piece.specs.Effects.{kept_of}
 use Rattle.pooma_piece.specs.Meaning.{pieces}
 use Rattle.pooma_piece.specs.Pieces.{Pieced}

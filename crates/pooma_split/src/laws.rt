@@ -1,17 +1,19 @@
 ghost use Rattle.std.specs.Prelude.{ℕ, ◌≡◌, ◌<◌, ℤ, Option, List, map, IsTrue, All, Contains};
+ghost use Rattle.std.specs.List.Sorted.{IsPermutation};
 ghost use Rattle.pooma_field.specs.Numbered.{Numbered, IsFull};
 ghost use Rattle.pooma_field.specs.Worlds.{World, array_of};
 ghost use Rattle.pooma_expr.specs.declared.reduction.Reduction.{Reduction};
 ghost use Rattle.pooma_expr.specs.declared.tree.Expr.{Expr};
+ghost use Rattle.pooma_expr.specs.Reductions.{AllFit};
 ghost use Rattle.pooma_expr.specs.Trees.{bound, views_of};
 ghost use Rattle.pooma_domain.specs.Cells.{Interval};
 ghost use Rattle.pooma_machine.specs.Values.{lent_by};
 ghost use Rattle.pooma_model.specs.declared.statement.Action.{Action};
 ghost use Rattle.pooma_model.specs.declared.statement.Action.TheVariants as action;
 ghost use Rattle.pooma_model.specs.Assigning.{assigned, whole_value};
-ghost use Rattle.pooma_model.specs.Declarations.{Declared};
+ghost use Rattle.pooma_model.specs.Declarations.{Declared, value_in};
 ghost use Rattle.pooma_model.specs.Fit.{IsFit};
-ghost use Rattle.pooma_model.specs.Partitions.{IsPartition};
+ghost use Rattle.pooma_model.specs.Partitions.{IsPartition, numbers_in_turn};
 ghost use Rattle.pooma_model.specs.Parts.{parts_of};
 ghost use Rattle.pooma_model.specs.Reducing.{reduced};
 ghost use Rattle.pooma_piece.specs.Lent.{fits};
@@ -23,6 +25,7 @@ ghost use Rattle.pooma_view.specs.Views.{Viewed};
 ghost use Rattle.pooma_split.specs.Gathered.{HasLaws};
 ghost use Rattle.pooma_split.specs.Splits.{pieces_of};
 ghost use Rattle.pooma_split.specs.Statements.{ComesTo, GathersTo, Stands, done_in_order, fault_among};
+ghost use Rattle.pooma_split.specs.Words.{AllWords, IsWord, literals_fit};
 
 use pooma_domain::order_of_cells;
 use pooma_layout::allocated_cells_of_patches;
@@ -40,7 +43,8 @@ use pooma_store::{numbers_of_owners, objects_change};
 /// Of an assignment: either pieces answer a fault, and the earliest of theirs is the assignment's, at its position, or none
 /// does, and the objects stand for the world that it becomes. Of a reduction: either pieces answer a fault, and the earliest
 /// of theirs is the reduction's, or each answers what the reduction keeps of the numbers at its positions, and these numbers,
-/// box after box in any order, come to its result or to its fault at the sum.
+/// box after box in any order, come to its result or to its fault at the sum. They are numbers of 64 bits where those of the
+/// objects, of the scalars and of its literals are.
 pub fn statements_in_pieces()
     ensures assigns { (declared : Declared) (objects : List Numbered) (world : World) (number : ℕ) (target : Viewed) (value : Expr) (mask : Option Expr)
         → IsFit declared (action.Assign target value mask)
@@ -56,6 +60,11 @@ pub fn statements_in_pieces()
         (fault_among (pieces_of declared world.scalars number (action.Reduce scalar reduction positions value)) (done_in_order (pieces_of declared world.scalars number (action.Reduce scalar reduction positions value)) objects))
         (done_in_order (pieces_of declared world.scalars number (action.Reduce scalar reduction positions value)) objects).outcomes
         (reduced declared scalar reduction positions value world) }
+    ensures words { (declared : Declared) (objects : List Numbered) (world : World) (scalar : ℕ) (reduction : Reduction) (positions : List Interval) (value : Expr)
+        → IsFit declared (action.Reduce scalar reduction positions value)
+        → Stands declared objects world (views_of value) → AllWords objects → All IsWord world.scalars → IsTrue (literals_fit value)
+        → (order : List (List Interval)) → IsPermutation (parts_of declared (views_of (bound world.scalars value)) positions) order
+        → AllFit (numbers_in_turn (value_in declared world value) order) }
 {
     gathered();
 }

@@ -1,6 +1,4 @@
 use Rattle.std.proofs.Common.{sym, subst}
-use Rattle.std.specs.Prelude.{List}
-use Rattle.pooma_domain.specs.Cells.{Interval}
 use Rattle.pooma_view.specs.Slots.{positions_of}
 use Rattle.pooma_expr.specs.Trees.{bound, views_of}
 use Rattle.pooma_machine.specs.Values.{lent_by}

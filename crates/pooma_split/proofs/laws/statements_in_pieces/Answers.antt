@@ -1,5 +1,5 @@
 use Rattle.pooma_split.proofs.Ending.{assign_comes}
-use Rattle.pooma_split.proofs.Gathering.{reduce_gathers}
+use Rattle.pooma_split.proofs.Gathering.{order_words, reduce_gathers}
 use Rattle.pooma_split.proofs.laws.statements_in_pieces.Goals as goal
 
 pub returns : goal.returns
@@ -8,4 +8,6 @@ returns c = record {
       assign_comes c.gathered.ensures declared number target value mask world fit objects standing full;
   reduces = λ declared objects world number scalar reduction positions value fit standing.
       reduce_gathers c.gathered.ensures declared number scalar reduction positions value world fit objects standing;
+  words = λ declared objects world scalar reduction positions value fit standing words few literals order moved.
+      order_words c.gathered.ensures declared 0 scalar reduction positions value world fit objects standing words few literals order moved;
 }

@@ -1,4 +1,4 @@
-use Rattle.std.proofs.Common.{sym, ap, ◌∙◌, subst, ◌≡◌, ◌<◌, map, length}
+use Rattle.std.proofs.Common.{sym, ap, ◌∙◌, subst, ◌≡◌, map}
 use Rattle.std.specs.Prelude.{IfOk, All, List}
 use Rattle.pooma_view.specs.Views.{Viewed}
 use Rattle.pooma_expr.specs.Trees.{views_of}

@@ -1,4 +1,4 @@
-use Rattle.std.proofs.Common.{sym, ap, ◌∙◌, subst, ◌≡◌, ◌<◌, ◌≤◌, [], length, get_or}
+use Rattle.std.proofs.Common.{◌∙◌, subst, ◌≡◌, ◌≤◌, [], length}
 use Rattle.std.proofs.lemmas.Option.{get_or_from_slice_get, slice_get_within}
 use Rattle.std.specs.Prelude.{Some, List, slice_get}
 use Rattle.pooma_domain.specs.Cells.{Interval}
