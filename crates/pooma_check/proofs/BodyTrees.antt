@@ -1,11 +1,7 @@
 -- The body of a stencil as a tree has the offsets of its line.
-use Rattle.std.proofs.Common.{◌≡◌, ℤ, pos, List, [], ◌∷◌, ◌++◌, sym, ap, ◌∙◌}
-use Rattle.pooma_text.specs.declared.span.Span.{Span}
+use Rattle.std.proofs.Common.{◌≡◌, ℤ, pos, List, ◌++◌, sym, ap, ◌∙◌}
 use Rattle.pooma_parse.specs.declared.form.RawExpr.{RawExpr}
 use Rattle.pooma_parse.specs.declared.form.RawExpr.TheOpen.{RawExpr-F}
-use Rattle.pooma_parse.specs.declared.form.RawExpr.TheVariants as raw
-use Rattle.pooma_parse.specs.declared.form.RawOp.{RawOp}
-use Rattle.pooma_parse.specs.declared.form.RawView.{RawView}
 use Rattle.pooma_stencil.specs.declared.body.Body.{Body}
 use Rattle.pooma_stencil.specs.declared.body.Body.TheFolds.{fold-roll-Body}
 use Rattle.pooma_stencil.specs.declared.body.Body.TheOpen.{Body-F}
@@ -14,7 +10,7 @@ use Rattle.pooma_stencil.specs.Bodies.{offsets_of}
 use Rattle.pooma_stencil.specs.Bodies as tree
 use Rattle.pooma_check.specs.Bodies.{body_by, body_of, offsets_by, offsets_in}
 use Rattle.pooma_check.specs.Operators.{op_of}
-use Rattle.pooma_check.proofs.Expressions.{EachForm, by_form, fold-Abs, fold-Apply, fold-At, fold-Bin, fold-Index, fold-Neg, fold-Number, fold-View, fold-Where}
+use Rattle.pooma_check.proofs.Expressions.{by_form, fold-Abs, fold-Apply, fold-At, fold-Bin, fold-Index, fold-Neg, fold-Number, fold-View, fold-Where}
 
 abbrev HasOffsets : RawExpr → Type 0
 HasOffsets e = offsets_of (body_of e) ≡ offsets_in e

@@ -1,12 +1,11 @@
 -- A brick has one patch, which allocates its cells.
-use Rattle.std.proofs.Common.{◌≡◌, ℕ, ℤ, pos, neg_ℤ, ◌+ℤ◌, ◌-ℤ◌, List, [], ◌∷◌, length, refl, sym, ap, ap₂, ◌∙◌, arith}
+use Rattle.std.proofs.Common.{◌≡◌, ℕ, ℤ, pos, List, [], ◌∷◌, length, refl, ap, ap₂, ◌∙◌, arith}
 use Rattle.std.specs.Prelude.{flat_map, map, sum_by}
 use Rattle.std.specs.Int.{int_max, int_min}
 use Rattle.std.proofs.lemmas.Int.{int_max_is, int_min_is, ints}
 use Rattle.pooma_domain.specs.Cells.{Interval, interval, cells_of}
-use Rattle.pooma_domain.specs.Operations.{common, common_axes, grown, reaches}
-use Rattle.pooma_layout.specs.Axes.{CutAxis, allocated_part, cut_axis, parts, total_axis, widened}
-use Rattle.pooma_layout.specs.Patches.{allocated_boxes, allocated_count, allocated_of, boxes_of, internal_of, owned_boxes, total_of}
+use Rattle.pooma_layout.specs.Axes.{allocated_part, cut_axis, parts, total_axis, widened}
+use Rattle.pooma_layout.specs.Patches.{allocated_count, allocated_of, owned_boxes, total_of}
 use Rattle.pooma_check.specs.Layouts.{brick_of}
 
 same_interval : (a b : Interval) → a.first ≡ b.first → a.last ≡ b.last → a ≡ b

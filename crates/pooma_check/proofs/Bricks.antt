@@ -1,5 +1,5 @@
 -- What a line that was looked at says of its axes, guards and blocks.
-use Rattle.std.proofs.Common.{◌≡◌, ℕ, zero, suc, ◌*◌, ◌%◌, ◌≤◌, ℤ, pos, negsuc, ◌+ℤ◌, ◌≤ℤ◌, List, [], ◌∷◌, length, take, refl, sym, ap, subst, ◌∙◌, arith}
+use Rattle.std.proofs.Common.{◌≡◌, ℕ, zero, suc, ◌%◌, ◌≤◌, ℤ, pos, negsuc, ◌+ℤ◌, ◌≤ℤ◌, List, [], ◌∷◌, length, take, refl, ap, ◌∙◌, arith}
 use Rattle.std.proofs.Math.IntN.{+ℤ_idr}
 use Rattle.std.proofs.lemmas.Int.{ints}
 use Rattle.std.proofs.lemmas.List.Elements.{All-cons, All-head, All-nil, All-replicate, All-tail, All-weaker}
@@ -7,7 +7,7 @@ use Rattle.std.specs.List.{AllZip}
 use Rattle.std.specs.Prelude.{All, map, replicate, unsigned_abs}
 use Rattle.pooma_domain.specs.Cells.{Interval, IsOrdered, axis_length, count_of, interval}
 use Rattle.pooma_layout.specs.Axes.{IsDepth, IsNear, cut_axis, total_axis}
-use Rattle.pooma_layout.specs.Blocks.{IsPartCount, block_lengths, blocks_of, product}
+use Rattle.pooma_layout.specs.Blocks.{IsPartCount, block_lengths, product}
 use Rattle.pooma_layout.specs.Patches.{total_of}
 use Rattle.pooma_check.specs.declared.cause.LimitName.TheVariants as limit
 use Rattle.pooma_check.specs.Layouts.{axes_of, block_borders, borders_from, brick_of, cut_axes}

@@ -1,5 +1,5 @@
 -- The views of a sound line's action are of arrays that are there.
-use Rattle.std.proofs.Common.{◌≡◌, ◌⊎◌, inl, inr, ℕ, ◌<◌, length, rules, List, [], ◌∷◌, ◌++◌, Option, None, Some, refl, sym, subst}
+use Rattle.std.proofs.Common.{◌≡◌, inl, inr, ℕ, ◌<◌, length, rules, List, [], ◌∷◌, Option, None, Some, sym, subst}
 use Rattle.std.proofs.lemmas.List.Elements.{All-append, All-cons, All-head, All-nil, All-tail}
 use Rattle.std.specs.Option.{ForSome}
 use Rattle.std.specs.Prelude.{All, IfSome, flat_map}
@@ -11,7 +11,6 @@ use Rattle.pooma_parse.specs.declared.form.RawExpr.{RawExpr}
 use Rattle.pooma_parse.specs.declared.form.RawLine.{RawLine}
 use Rattle.pooma_parse.specs.declared.form.RawLine.TheVariants as line
 use Rattle.pooma_model.specs.declared.statement.Action.{Action}
-use Rattle.pooma_model.specs.declared.statement.Action.TheVariants as action
 use Rattle.pooma_model.specs.Declarations.{Declared}
 use Rattle.pooma_check.specs.declared.names.Named.{Named}
 use Rattle.pooma_check.specs.declared.names.Named.TheVariants as named

@@ -1,13 +1,10 @@
 -- What a line does that has no cause to be refused fits what is declared.
-use Rattle.std.proofs.Common.{◌≡◌, ◌⊎◌, inl, inr, ℕ, ◌+◌, ◌<◌, ◌≤◌, pos, true≢false, Bool, true, false, List, [], ◌∷◌, ◌++◌, length, Option, None, Some, refl, sym, ap, subst, ◌∙◌, arith}
+use Rattle.std.proofs.Common.{◌≡◌, ℕ, ◌<◌, ◌≤◌, pos, List, [], ◌∷◌, ◌++◌, length, None, sym, ap, subst, ◌∙◌, arith}
 use Rattle.std.proofs.lemmas.List.Elements.{All-append, All-cons, All-head, All-nil, All-tail}
-use Rattle.std.specs.Prelude.{All, IsTrue, flat_map, slice_index_or}
-use Rattle.pooma_text.specs.declared.span.Span.{Span}
-use Rattle.pooma_text.specs.Lines.{text_at}
-use Rattle.pooma_domain.specs.Cells.{Interval, IsBox}
+use Rattle.std.specs.Prelude.{All, flat_map, slice_index_or}
+use Rattle.pooma_domain.specs.Cells.{Interval}
 use Rattle.pooma_view.specs.Slots.{positions_of}
 use Rattle.pooma_view.specs.Views.{Viewed}
-use Rattle.pooma_expr.specs.declared.reduction.Reduction.{Reduction}
 use Rattle.pooma_expr.specs.declared.tree.Expr.{Expr}
 use Rattle.pooma_expr.specs.declared.tree.Expr.TheFolds.{fold-roll-Expr}
 use Rattle.pooma_expr.specs.declared.tree.Expr.TheOpen.{Expr-F}
@@ -21,14 +18,13 @@ use Rattle.pooma_parse.specs.declared.form.RawAssign.{RawAssign}
 use Rattle.pooma_parse.specs.declared.form.RawAssign.TheVariants as assign
 use Rattle.pooma_parse.specs.declared.form.RawExpr.{RawExpr}
 use Rattle.pooma_parse.specs.declared.form.RawView.{RawView}
-use Rattle.pooma_model.specs.Declarations.{Declared, shape_at, with_one_scalar}
-use Rattle.pooma_model.specs.Fit.{AreFew, IsAssignFit, IsPrintFit, IsReadable, IsReduceFit, IsValueOver, IsWritable, LiesIn, MOST_DEPTH, MOST_READS, ReadsApart}
+use Rattle.pooma_model.specs.Declarations.{Declared, with_one_scalar}
+use Rattle.pooma_model.specs.Fit.{AreFew, IsAssignFit, IsPrintFit, IsReduceFit, IsValueOver, IsWritable, MOST_DEPTH, MOST_READS, ReadsApart}
 use Rattle.pooma_model.specs.Parts.{parts_of}
-use Rattle.pooma_check.specs.Kept.{IsThere}
-use Rattle.pooma_check.specs.Known.{Known, declared_in, named_at}
+use Rattle.pooma_check.specs.Known.{Known, declared_in}
 use Rattle.pooma_check.specs.Readings.{views_of_reading}
 use Rattle.pooma_check.specs.Seen.{CanSee, IsSeenAt}
-use Rattle.pooma_check.specs.Statements.{Task, first_positions, joined, task_over}
+use Rattle.pooma_check.specs.Statements.{first_positions, joined}
 use Rattle.pooma_check.specs.Trees.{axes_in, readings_in, tree_of}
 use Rattle.pooma_check.specs.Views.{Reading, positions_read, reading_of, view_of}
 use Rattle.pooma_check.proofs.KnownAfter.{AreThere}

@@ -1,10 +1,8 @@
 -- What holds between two lines holds after a line that has no cause.
-use Rattle.std.proofs.Common.{◌≡◌, ◌⊎◌, inl, inr, ℕ, ◌+◌, ◌*◌, ◌<◌, ◌≤◌, Bool, true, false, cond, List, [], ◌∷◌, ◌++◌, length, Option, None, Some, refl, sym, ap, subst, ◌∙◌, arith}
+use Rattle.std.proofs.Common.{◌≡◌, ◌⊎◌, inl, inr, ℕ, ◌+◌, ◌≤◌, Bool, true, false, cond, List, [], ◌∷◌, ◌++◌, length, Option, None, Some, refl, sym, ap, subst, ◌∙◌, arith}
 use Rattle.std.proofs.lemmas.List.{length-append}
-use Rattle.std.specs.Prelude.{IsTrue}
 use Rattle.std.specs.Map.{lookup}
 use Rattle.std.specs.Str.{bytes_eq}
-use Rattle.pooma_text.specs.declared.span.Span.{Span}
 use Rattle.pooma_text.specs.Lines.{text_at}
 use Rattle.pooma_field.specs.Shapes.{Shaped}
 use Rattle.pooma_layout.specs.Axes.{CutAxis}
@@ -12,12 +10,11 @@ use Rattle.pooma_stencil.specs.Stencils.{Stenciled}
 use Rattle.pooma_parse.specs.declared.form.RawLine.{RawLine}
 use Rattle.pooma_parse.specs.declared.form.RawLine.TheVariants as line
 use Rattle.pooma_model.specs.declared.statement.Action.{Action}
-use Rattle.pooma_model.specs.declared.statement.Statement.{Statement}
 use Rattle.pooma_model.specs.Declarations.{Declared}
 use Rattle.pooma_check.specs.declared.names.Named.{Named}
 use Rattle.pooma_check.specs.declared.names.Named.TheVariants as named
-use Rattle.pooma_check.specs.After.{after, with_action, with_action_of, with_declaration, with_layout, with_name, with_new_array, with_scalar, with_stencil}
-use Rattle.pooma_check.specs.Kept.{IsKnown, IsThere, executed_in, turns_of}
+use Rattle.pooma_check.specs.After.{after, with_action, with_action_of, with_declaration, with_layout, with_new_array, with_scalar, with_stencil}
+use Rattle.pooma_check.specs.Kept.{IsKnown, IsThere}
 use Rattle.pooma_check.specs.Known.{Known, Names, declared_in, layout_named, named_at}
 use Rattle.pooma_check.specs.Layouts.{axes_of, brick_of}
 use Rattle.pooma_check.specs.Sound.{IsLimited}

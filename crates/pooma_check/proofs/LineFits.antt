@@ -1,5 +1,5 @@
 -- What a line does fits what is declared after it, form by form.
-use Rattle.std.proofs.Common.{◌≡◌, ℕ, ◌<◌, ◌≤◌, true≢false, pos, Bool, true, false, List, [], ◌∷◌, length, Option, None, Some, refl, sym, ap, subst, ◌∙◌, arith}
+use Rattle.std.proofs.Common.{◌≡◌, ℕ, ◌<◌, ◌≤◌, pos, Bool, true, false, List, [], length, Option, None, Some, refl, subst}
 use Rattle.std.proofs.lemmas.List.Elements.{All-head, All-nil}
 use Rattle.std.specs.Prelude.{All, IsTrue, ◌&&◌, ◌||◌}
 use Rattle.pooma_text.specs.declared.span.Span.{Span}
@@ -26,8 +26,8 @@ use Rattle.pooma_check.specs.Operators.{reduction_of}
 use Rattle.pooma_check.specs.Seen.{CanSee}
 use Rattle.pooma_check.specs.Sound.{IsLimited, IsSound}
 use Rattle.pooma_check.specs.Statements.{action_of, first_positions, joined, print_of, scalar_given}
-use Rattle.pooma_check.specs.Trees.{axes_in, names_fit, readings_in, tree_of, unless_scalar}
-use Rattle.pooma_check.specs.Views.{Reading, positions_read, reading_of, view_of}
+use Rattle.pooma_check.specs.Trees.{axes_in, readings_in, tree_of, unless_scalar}
+use Rattle.pooma_check.specs.Views.{positions_read, reading_of, view_of}
 use Rattle.pooma_check.proofs.Fits.{assign_fits, first_few, first_from_zero, no_axes_few, print_fits, reduce_fits, reduce_fits_new}
 use Rattle.pooma_check.proofs.Heads.{not_true}
 use Rattle.pooma_check.proofs.KnownAfter.{AreThere}

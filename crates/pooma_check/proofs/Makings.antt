@@ -1,16 +1,14 @@
 -- What a sound line reads and makes can be viewed and made.
-use Rattle.std.proofs.Common.{◌≡◌, ℕ, ◌≤◌, Bool, List, [], ◌∷◌, length, Option, None, Some, refl, sym, ap, subst, ◌∙◌, arith}
+use Rattle.std.proofs.Common.{◌≡◌, ℕ, List, [], None, Some, subst, arith}
 use Rattle.std.proofs.lemmas.List.Elements.{All-head, All-tail}
 use Rattle.std.specs.Prelude.{All, IsTrue, ◌||◌}
 use Rattle.pooma_text.specs.declared.span.Span.{Span}
-use Rattle.pooma_view.specs.Slots.{positions_of}
 use Rattle.pooma_model.specs.Fit.{AreFew}
 use Rattle.pooma_parse.specs.declared.form.RawAssign.{RawAssign}
 use Rattle.pooma_parse.specs.declared.form.RawExpr.{RawExpr}
 use Rattle.pooma_parse.specs.declared.form.RawLine.{RawLine}
 use Rattle.pooma_parse.specs.declared.form.RawLine.TheVariants as line
 use Rattle.pooma_parse.specs.declared.form.RawView.{RawView}
-use Rattle.pooma_check.specs.declared.names.Named.{Named}
 use Rattle.pooma_check.specs.declared.names.Named.TheVariants as named
 use Rattle.pooma_check.specs.Known.{Known, declared_in, is_array, is_new, is_scalar, named_at}
 use Rattle.pooma_check.specs.Readings.{CanView, IsSoundReading}
@@ -18,7 +16,7 @@ use Rattle.pooma_check.specs.Seen.{CanMake, CanSee}
 use Rattle.pooma_check.specs.Sound.{IsSound}
 use Rattle.pooma_check.specs.Statements.{first_positions, task_of}
 use Rattle.pooma_check.specs.Trees.{names_fit, readings_in, unless_scalar}
-use Rattle.pooma_check.specs.Views.{Reading, positions_read, reading_of}
+use Rattle.pooma_check.specs.Views.{reading_of}
 use Rattle.pooma_check.proofs.Fits.{first_few}
 use Rattle.pooma_check.proofs.Sounding.{can_view, readings_sound}
 use Rattle.pooma_check.proofs.TreeForms.{first_of_and, second_of_and}

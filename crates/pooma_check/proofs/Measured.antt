@@ -1,14 +1,13 @@
 -- The tree of an expression has as many views and is as deep as its forms tell.
-use Rattle.std.proofs.Common.{◌≡◌, ℕ, ◌+◌, ◌≤◌, max, ℤ, List, [], ◌∷◌, ◌++◌, length, Option, Some, None, refl, sym, ap, ap₂, ◌∙◌, arith}
-use Rattle.std.specs.Prelude.{map, pos, if◌then◌else◌}
+use Rattle.std.proofs.Common.{◌≡◌, ℕ, ◌+◌, ◌≤◌, max, List, ◌++◌, length, Option, Some, None, sym, ap, ap₂, ◌∙◌, arith}
+use Rattle.std.specs.Prelude.{pos, if◌then◌else◌}
 use Rattle.std.proofs.lemmas.List.{length-append, length-map}
-use Rattle.pooma_text.specs.declared.span.Span.{Span}
 use Rattle.pooma_domain.specs.Cells.{count_of}
 use Rattle.pooma_view.specs.Views.{Viewed}
 use Rattle.pooma_expr.specs.declared.tree.Expr.{Expr}
 use Rattle.pooma_expr.specs.declared.tree.Expr.TheOpen.{Expr-F}
 use Rattle.pooma_expr.specs.declared.tree.Expr.TheViews.{roll-Expr}
-use Rattle.pooma_expr.specs.declared.tree.Expr.TheFolds.{fold-Expr, fold-roll-Expr}
+use Rattle.pooma_expr.specs.declared.tree.Expr.TheFolds.{fold-roll-Expr}
 use Rattle.pooma_expr.specs.declared.tree.Op.{Op}
 use Rattle.pooma_expr.specs.declared.tree.Op.TheVariants as op
 use Rattle.pooma_expr.specs.Trees as trees
@@ -21,9 +20,6 @@ use Rattle.pooma_stencil.proofs.Trees as stencils
 use Rattle.pooma_parse.specs.declared.form.RawAssign.{RawAssign}
 use Rattle.pooma_parse.specs.declared.form.RawAssign.TheVariants as assign
 use Rattle.pooma_parse.specs.declared.form.RawExpr.{RawExpr}
-use Rattle.pooma_parse.specs.declared.form.RawExpr.TheVariants as raw
-use Rattle.pooma_parse.specs.declared.form.RawOp.{RawOp}
-use Rattle.pooma_parse.specs.declared.form.RawView.{RawView}
 use Rattle.pooma_check.specs.declared.names.Named.{Named}
 use Rattle.pooma_check.specs.declared.names.Named.TheVariants as named
 use Rattle.pooma_check.specs.Known.{Known, is_scalar, named_at, stencil_named}
@@ -32,7 +28,7 @@ use Rattle.pooma_check.specs.Operators.{op_of}
 use Rattle.pooma_check.specs.Statements.{joined}
 use Rattle.pooma_check.specs.Trees.{leaf, tree_by, tree_of}
 use Rattle.pooma_check.specs.Views.{view_of}
-use Rattle.pooma_check.proofs.Expressions.{EachForm, by_form, fold-Abs, fold-Apply, fold-At, fold-Bin, fold-Index, fold-Neg, fold-Number, fold-View, fold-Where}
+use Rattle.pooma_check.proofs.Expressions.{by_form, fold-Abs, fold-Apply, fold-At, fold-Bin, fold-Index, fold-Neg, fold-Number, fold-View, fold-Where}
 
 -- a body is no less deep than a leaf
 pub some_body_depth : (b : Body) → 1 ≤ bodies.body_depth b

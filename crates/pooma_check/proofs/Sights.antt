@@ -1,23 +1,21 @@
 -- What a sound statement reads can be seen at its positions.
-use Rattle.std.proofs.Common.{◌≡◌, ℕ, ◌+◌, ◌*◌, ◌<◌, ◌≤◌, ℤ, pos, negsuc, ◌-ℤ◌, ◌+ℤ◌, ◌≤ℤ◌, List, [], ◌∷◌, length, Option, None, Some, refl, sym, ap, subst, ◌∙◌, arith}
+use Rattle.std.proofs.Common.{◌≡◌, ℕ, ◌*◌, ◌≤◌, ℤ, pos, negsuc, ◌-ℤ◌, ◌+ℤ◌, ◌≤ℤ◌, List, [], ◌∷◌, length, None, Some, refl, sym, ap, subst, ◌∙◌, arith}
 use Rattle.std.proofs.Math.Nat.{mul-le-mul_left, mul-le-mul_right}
 use Rattle.std.proofs.lemmas.Int.{ints}
 use Rattle.std.proofs.lemmas.List.Elements.{All-cons, All-head, All-nil, All-tail}
 use Rattle.std.specs.Prelude.{All, slice_index_or}
-use Rattle.pooma_domain.specs.Cells.{Interval, IsBox, IsIn, IsOrdered, axis_length, cells_of, count_of, interval}
+use Rattle.pooma_domain.specs.Cells.{Interval, IsBox, IsIn, axis_length, cells_of, count_of, interval}
 use Rattle.pooma_domain.specs.Operations.{each_of, moved}
-use Rattle.pooma_view.specs.Slots.{cell_named, places, positions_of}
+use Rattle.pooma_view.specs.Slots.{places, positions_of}
 use Rattle.pooma_view.specs.Views.{Viewed}
 use Rattle.pooma_view.specs.declared.slots.Slot.{Slot}
 use Rattle.pooma_view.specs.declared.slots.Slot.TheVariants.{Fixed, Along}
 use Rattle.pooma_expr.specs.Trees.{views_of}
 use Rattle.pooma_stencil.specs.Expansions.{IsPartOf, expansion, positions_on}
-use Rattle.pooma_stencil.specs.Stencils.{IsExtent, IsStencil, Stenciled, result_positions, shrunk}
+use Rattle.pooma_stencil.specs.Stencils.{IsExtent, IsStencil, Stenciled, result_positions}
 use Rattle.pooma_model.specs.Declarations.{Declared, shape_at}
 use Rattle.pooma_model.specs.Fit.{AreFew, IsReadable, LiesIn}
-use Rattle.pooma_check.specs.Readings.{HasPlaces, IsSoundReading, views_by, views_of_reading}
 use Rattle.pooma_check.specs.Seen.{CanSee, IsSeenAt}
-use Rattle.pooma_check.specs.Views.{Reading, positions_left, positions_read}
 
 abbrev FromZero : Interval → Type 0
 FromZero axis = axis.first ≡ pos 0

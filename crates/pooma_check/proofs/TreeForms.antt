@@ -1,5 +1,5 @@
 -- What is asked of an expression is asked of its operands.
-use Rattle.std.proofs.Common.{◌≡◌, ℕ, ◌+◌, ◌≤◌, max, ℤ, Bool, true, false, true≢false, List, [], ◌∷◌, ◌++◌, Option, None, Some, refl, sym, ap, subst, ◌∙◌, arith}
+use Rattle.std.proofs.Common.{◌≡◌, ℕ, ◌+◌, ◌≤◌, ℤ, Bool, true, false, true≢false, List, [], ◌++◌, None, Some, refl, sym, ap, subst, ◌∙◌, arith}
 use Rattle.std.proofs.lemmas.List.Elements.{All-head}
 use Rattle.std.specs.Prelude.{All, IsTrue, ◌&&◌}
 use Rattle.pooma_text.specs.declared.span.Span.{Span}
@@ -11,8 +11,7 @@ use Rattle.pooma_parse.specs.declared.form.RawExpr.TheVariants as raw
 use Rattle.pooma_parse.specs.declared.form.RawOp.{RawOp}
 use Rattle.pooma_parse.specs.declared.form.RawView.{RawView}
 use Rattle.pooma_check.specs.declared.names.Named.TheVariants as named
-use Rattle.pooma_check.specs.Bodies.{depth_by, depth_in}
-use Rattle.pooma_check.specs.Known.{Known, declared_in, is_array, is_stencil, named_at, named_in, stencil_named}
+use Rattle.pooma_check.specs.Known.{Known, declared_in, is_array, is_stencil, named_at, stencil_named}
 use Rattle.pooma_check.specs.Readings.{CanView, IsSoundReading}
 use Rattle.pooma_check.specs.Seen.{CanMake}
 use Rattle.pooma_check.specs.Trees.{axes_by, axes_in, is_readable, names_by, names_fit, readings_by, readings_in, tree_by, tree_of, unless_scalar}

@@ -1,7 +1,5 @@
 -- The scalars and axes that the tree of an expression asks for are there.
-use Rattle.std.proofs.Common.{◌≡◌, ℕ, ◌+◌, ◌<◌, ◌≤◌, max, pos, List, Option, None, Some, refl, sym, ap, ◌∙◌, arith}
-use Rattle.std.specs.Map.{lookup}
-use Rattle.std.specs.Str.{bytes_eq}
+use Rattle.std.proofs.Common.{◌≡◌, ℕ, ◌<◌, ◌≤◌, pos, List, Option, None, Some, refl, ap, arith}
 use Rattle.pooma_text.specs.Lines.{text_at}
 use Rattle.pooma_text.specs.declared.span.Span.{Span}
 use Rattle.pooma_domain.specs.Cells.{count_of}
@@ -9,21 +7,17 @@ use Rattle.pooma_view.specs.Views.{Viewed}
 use Rattle.pooma_expr.specs.declared.tree.Expr.{Expr}
 use Rattle.pooma_expr.specs.declared.tree.Expr.TheFolds.{fold-roll-Expr}
 use Rattle.pooma_expr.specs.declared.tree.Expr.TheOpen.{Expr-F}
-use Rattle.pooma_expr.specs.declared.tree.Expr.TheViews.{roll-Expr}
 use Rattle.pooma_expr.specs.Trees.{axes_at, axes_needed, greatest_by, scalars_at, scalars_needed}
 use Rattle.pooma_stencil.specs.Expansions.{expansion}
 use Rattle.pooma_stencil.specs.Stencils.{Stenciled}
 use Rattle.pooma_parse.specs.declared.form.RawExpr.{RawExpr}
-use Rattle.pooma_parse.specs.declared.form.RawExpr.TheVariants as raw
-use Rattle.pooma_parse.specs.declared.form.RawView.{RawView}
 use Rattle.pooma_check.specs.declared.names.Named.{Named}
 use Rattle.pooma_check.specs.declared.names.Named.TheVariants as named
-use Rattle.pooma_check.specs.Kept.{IsThere}
 use Rattle.pooma_check.specs.Known.{Known, declared_in, named_at, stencil_named}
 use Rattle.pooma_check.specs.Operators.{op_of}
 use Rattle.pooma_check.specs.Trees.{axes_by, axes_in, leaf, tree_by, tree_of}
 use Rattle.pooma_check.specs.Views.{view_of}
-use Rattle.pooma_check.proofs.Expressions.{EachForm, by_form, fold-Abs, fold-Apply, fold-At, fold-Bin, fold-Index, fold-Neg, fold-Number, fold-View, fold-Where}
+use Rattle.pooma_check.proofs.Expressions.{by_form, fold-Abs, fold-Apply, fold-At, fold-Bin, fold-Index, fold-Neg, fold-Number, fold-View, fold-Where}
 use Rattle.pooma_check.proofs.KnownAfter.{AreThere}
 
 -- a name that is read asks for the scalar that it names

@@ -1,12 +1,12 @@
 -- How many positions slots make, from one on.
-use Rattle.std.proofs.Common.{◌≡◌, ℕ, zero, suc, ◌+◌, ◌*◌, List, [], ◌∷◌, length, drop, Option, Some, None, ℤ, pos, ◌-ℤ◌, ◌+ℤ◌, ◌<◌, min, refl, sym, ap, subst, ◌∙◌, arith}
+use Rattle.std.proofs.Common.{◌≡◌, ℕ, zero, suc, ◌+◌, ◌*◌, List, [], ◌∷◌, length, drop, Some, pos, ◌-ℤ◌, ◌<◌, min, sym, ap, ◌∙◌, arith}
 use Rattle.std.proofs.lemmas.Int.{ints}
 use Rattle.std.specs.Prelude.{slice_get}
 use Rattle.pooma_domain.specs.Cells.{Interval, axis_length, cells_of}
 use Rattle.pooma_domain.specs.declared.strides.Strided.{Strided}
 use Rattle.pooma_view.specs.Slots.{places, positions_of}
 use Rattle.pooma_view.specs.declared.slots.Slot.{Slot}
-use Rattle.pooma_view.specs.declared.slots.Slot.TheVariants.{Fixed, Along}
+use Rattle.pooma_view.specs.declared.slots.Slot.TheVariants.{Along}
 use Rattle.pooma_check.proofs.Capped.{capped_factor}
 use Rattle.pooma_check.proofs.Lengths.{length_of_some}
 

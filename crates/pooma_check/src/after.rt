@@ -123,11 +123,7 @@ fn declare<'a>(
 }
 
 // Declares a scalar, where the name is new.
-fn take_scalar<'a>(
-    known: &mut Known<'a>,
-    text: &'a [u8],
-    name: Span,
-) -> Result<(), AllocError>
+fn take_scalar<'a>(known: &mut Known<'a>, text: &'a [u8], name: Span) -> Result<(), AllocError>
     requires few { known.old.draft.declared.scalars < 2 ^ 32 - 1 }
     ensures known { OnOk result (known_of known.new
         ≡ with_scalar (text_at text.now name) (named_at (known_of known.old) text.now name) (known_of known.old)) }
@@ -154,12 +150,7 @@ fn values_printed(action: &Action) -> u64
 }
 
 // Puts the statement on the line of this number at the end. It counts as often as it is done.
-fn act(
-    alloc: Global,
-    known: &mut Known<'_>,
-    number: u32,
-    action: Action,
-) -> Result<(), AllocError>
+fn act(alloc: Global, known: &mut Known<'_>, number: u32, action: Action) -> Result<(), AllocError>
     requires turns { known.old.turns.items ≡ turns_kept known.old.draft.open_repeats }
     requires fit { IsFit known.old.draft.declared action }
     requires executed { known.old.executed + turns_in (known_of known.old) ≤ 1048576 }

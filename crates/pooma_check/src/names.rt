@@ -36,6 +36,7 @@ impl<'a> Model for Names<'a> {
 }
 
 impl<'a> Names<'a> {
+    /// No names. It takes no memory.
     pub fn new(alloc: Global) -> Names<'a>
         ensures { result ≡ [] }
     {
@@ -71,24 +72,28 @@ impl<'a> Names<'a> {
     }
 }
 
+/// Whether a layout is named, which an array's declaration asks for.
 pub fn is_layout(what: Option<Named>) -> bool
     ensures { result ≡ is_layout what }
 {
     matches!(what, Some(Named::Layout(_)))
 }
 
+/// Whether an array is named: a brick, an array or a field.
 pub fn is_array(what: Option<Named>) -> bool
     ensures { result ≡ is_array what }
 {
     matches!(what, Some(Named::Array(_)))
 }
 
+/// Whether a stencil is named, which may be put on a view.
 pub fn is_stencil(what: Option<Named>) -> bool
     ensures { result ≡ is_stencil what }
 {
     matches!(what, Some(Named::Stencil(_)))
 }
 
+/// Whether a scalar is named, which has no brackets and no stencil on it.
 pub fn is_scalar(what: Option<Named>) -> bool
     ensures { result ≡ is_scalar what }
 {

@@ -6,6 +6,7 @@ use pooma_expr::{Op, Reduction};
 use pooma_field::Updater;
 use pooma_parse::{RawOp, Updater4};
 
+/// The operator of an expression's tree.
 pub fn op_of(op: RawOp) -> Op
     ensures { result ≡ op_of op }
 {
@@ -28,6 +29,7 @@ pub fn op_of(op: RawOp) -> Op
     }
 }
 
+/// The updater of a field's face.
 pub fn updater_of(updater: Updater4) -> Updater
     ensures { result ≡ updater_of updater }
 {

@@ -35,11 +35,7 @@ pub fn check(alloc: Global, bytes: &[u8]) -> Result<Program, CheckError>
 }
 
 // What is known after all lines.
-fn read_lines<'a>(
-    alloc: Global,
-    bytes: &'a [u8],
-    spans: &[Span],
-) -> Result<Known<'a>, CheckError>
+fn read_lines<'a>(alloc: Global, bytes: &'a [u8], spans: &[Span]) -> Result<Known<'a>, CheckError>
     requires lines { map (text_at bytes.now) spans.now ≡ lines_of bytes.now }
     requires parts { All (IsPart bytes.now) spans.now }
     requires few { length spans.now ≤ 1048576 }

@@ -39,12 +39,7 @@ pub fn first_cause(
 }
 
 // The same, where the line may stand and its names fit.
-fn cause_of_task(
-    known: &Known<'_>,
-    text: &[u8],
-    form: &RawLine,
-    task: &Task<'_>,
-) -> Option<Cause>
+fn cause_of_task(known: &Known<'_>, text: &[u8], form: &RawLine, task: &Task<'_>) -> Option<Cause>
     requires kept { IsKept known.now }
     requires placed { IsPlaced (length known.now.draft.open_repeats) form.now }
     requires names { IsTrue (has_names known.now.names text.now form.now) }

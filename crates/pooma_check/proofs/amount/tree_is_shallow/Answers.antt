@@ -1,4 +1,3 @@
-use Rattle.std.proofs.Common.{arith}
 use Rattle.pooma_check.specs.Kept.{known_of}
 use Rattle.pooma_check.proofs.Measured.{depth_of_tree}
 use Rattle.pooma_check.proofs.amount.tree_is_shallow.Goals as goal

@@ -1,12 +1,11 @@
-use Rattle.std.proofs.Common.{◌≡◌, ◌≤◌, ℤ, pos, List, [], ◌∷◌, length, take, sym, ap, subst, ◌∙◌, arith}
+use Rattle.std.proofs.Common.{◌≡◌, pos, [], ◌∷◌, length, take, sym, ap, subst, ◌∙◌, arith}
 use Rattle.std.proofs.lemmas.List.{length-map}
 use Rattle.std.proofs.lemmas.Result.{IfOk-weaker}
 use Rattle.std.specs.List.{AllZip}
 use Rattle.std.specs.Prelude.{map, replicate}
 use Rattle.pooma_domain.specs.Cells.{count_of, interval}
-use Rattle.pooma_layout.specs.Axes.{CutAxis}
 use Rattle.pooma_layout.specs.Blocks.{IsPartCount, product}
-use Rattle.pooma_check.specs.Layouts.{axes_of, block_borders, brick_of, cut_axes}
+use Rattle.pooma_check.specs.Layouts.{axes_of, block_borders, cut_axes}
 use Rattle.pooma_check.proofs.Bricks.{brick_made, near_axes, one_part, one_patch, ones}
 use Rattle.pooma_check.proofs.Guards.{none_are_covering}
 use Rattle.pooma_check.proofs.declare.brick.Goals as goal
