@@ -16,3 +16,5 @@ mod piece;
 mod queue;
 #[cfg(test)]
 mod readiness;
+#[cfg(test)]
+mod window;
