@@ -41,7 +41,9 @@ status_of() {
 
 for script in examples/*.pooma; do
     wanted=$(cat "${script%.pooma}.out")
-    out=$(./pooma run 1 <"$script"); check "$script" "$(status_of "$wanted")" "$wanted" $? "$out"
+    out=$(./pooma run 1 <"$script")
+    status=$?
+    check "$script" "$(status_of "$wanted")" "$wanted" $status "$out"
 done
 
 # The examples of the reference: a block of a script, and behind it one of what it writes.
@@ -54,7 +56,9 @@ awk -v room="$blocks" '
     file { print > file }' docs/LANGUAGE.md
 for script in "$blocks"/*.pooma; do
     wanted=$(cat "${script%.pooma}.out")
-    out=$(./pooma run 1 <"$script"); check "example ${script##*/} of the reference" "$(status_of "$wanted")" "$wanted" $? "$out"
+    out=$(./pooma run 1 <"$script")
+    status=$?
+    check "example ${script##*/} of the reference" "$(status_of "$wanted")" "$wanted" $status "$out"
 done
 echo "program: $passed passed, $failed failed"
 [ "$failed" -eq 0 ]
