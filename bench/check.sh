@@ -42,18 +42,23 @@ repeats() {
     for _ in 1 2 3 4; do echo end; done
 }
 
-# A stencil without offsets whose body fills its line, and lines that each use it 816 times.
+# A stencil without offsets whose body fills its line, and lines that use it 816 times, as often as a line can. `grouped` is one line of
+# the greatest depth that has them, so the tree of 3,000,000 numbers and sums is made; `chained` are lines that are too deep.
 stencils() {
-    awk 'BEGIN {
-        for (k = 0; k < 19; k++) group = group (k ? "+" : "") "1"
-        for (k = 0; k < 100; k++) body = body (k ? "+" : "") "(" group ")"
+    awk -v how="$1" 'BEGIN {
+        for (k = 0; k < 30; k++) group = group (k ? "+" : "") "1"
+        for (k = 0; k < 64; k++) body = body (k ? "+" : "") "(" group ")"
         print "brick A (0:9)"
         print "brick B (0:9)"
         print "stencil S lower (0) upper (0) = " body
-        line = "B = S(A)"
-        for (k = 1; k < 816; k++) line = line "+S(A)"
+        for (k = 0; k < 136; k++) uses = uses (k ? "+" : "") "S(A)"
+        for (k = 0; k < 6; k++) {
+            grouped = grouped (k ? "+" : "") "(" uses ")"
+            chained = chained (k ? "+" : "") uses
+        }
+        if (how == "grouped") { print "B = " grouped; exit }
         size = 5000
-        while (size + length(line) + 1 <= 1048576) { print line; size += length(line) + 1 }
+        while (size + length(chained) + 5 <= 1048576) { print "B = " chained; size += length(chained) + 5 }
     }'
 }
 
@@ -63,7 +68,8 @@ parts 20 >"$scripts/parts-within"
 parts 21 >"$scripts/parts-beyond"
 repeats 0 >"$scripts/repeats-round-nothing"
 repeats 1 >"$scripts/repeats"
-stencils >"$scripts/stencils"
+stencils grouped >"$scripts/stencils-grouped"
+stencils chained >"$scripts/stencils-chained"
 ./pooma check </dev/null >/dev/null # builds the program where it has to be
 program=crates/pooma/out/pooma
 bad=0
