@@ -105,8 +105,12 @@ fn run_both(alloc: Global, machine: &mut Machine<Doubling>, first: u32, second: 
 {
     legal_histories_grow::<Doubling>();
     values_stay::<Doubling>();
-    let one = machine.dispatch(alloc, 0, first).ok()?;
-    let other = machine.dispatch(alloc, 0, second).ok()?;
+    let Ok(one) = machine.dispatch(alloc, 0, first) else {
+        return None;
+    };
+    let Ok(other) = machine.dispatch(alloc, 0, second) else {
+        return None;
+    };
     machine.release(0, other.perform());
     let _ = machine.history();
     machine.release(0, one.perform());

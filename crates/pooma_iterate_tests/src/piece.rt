@@ -177,10 +177,13 @@ fn reduced(alloc: Global, reduction: Reduction) -> Option<i64> {
         return None;
     }
     let nothing: Option<&mut Patch> = None;
-    match run_piece(&piece, nothing, &reads) {
-        Outcome::Value(partial) if partial.count() > 0 => partial.finish().ok(),
-        _ => None,
+    let Outcome::Value(partial) = run_piece(&piece, nothing, &reads) else {
+        return None;
+    };
+    if partial.count() == 0 {
+        return None;
     }
+    partial.finish().ok()
 }
 
 #[test]
