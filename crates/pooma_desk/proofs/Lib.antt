@@ -8,3 +8,4 @@ pub mod Calls
 pub mod Sharing
 pub mod Asking
 pub mod Lending
+pub mod Crosses
