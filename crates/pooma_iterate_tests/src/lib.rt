@@ -17,4 +17,6 @@ mod queue;
 #[cfg(test)]
 mod readiness;
 #[cfg(test)]
+mod threads;
+#[cfg(test)]
 mod window;
