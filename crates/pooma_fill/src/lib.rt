@@ -4,7 +4,9 @@
 
 mod boxes;
 mod fills;
+mod laws;
 mod reading;
 mod stale;
 
+pub use laws::{fills_fit, fills_make_fresh, marks_tell_stale};
 pub use stale::Stale;
