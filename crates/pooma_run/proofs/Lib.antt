@@ -5,3 +5,6 @@ pub mod Choosing
 pub mod Runs
 pub mod Growth
 pub mod Turns
+mod Joined
+mod Worked
+pub mod Telling

@@ -1,3 +1,5 @@
 pub mod Questions
 pub mod Windows
 pub mod Running
+pub mod Steps
+pub mod Turns

@@ -2,12 +2,14 @@
 #![tactic(auto)]
 
 pub use completer::{Completed, Completer};
+pub use law::windows_of_steps;
 pub use list_picker::ListPicker;
 pub use one_thread::OneThread;
 pub use picker::{First, Picker};
 
 mod choices;
 mod completer;
+mod law;
 mod list_picker;
 mod one_thread;
 mod picker;
