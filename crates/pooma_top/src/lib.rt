@@ -8,11 +8,10 @@ mod cause;
 mod command;
 mod law;
 mod output;
-mod picker;
 mod status;
 mod top;
 
 pub use law::{one_output, outputs_by_status};
-pub use picker::{First, Picker};
+pub use pooma_run::{First, Picker};
 pub use status::Status;
 pub use top::top_one;

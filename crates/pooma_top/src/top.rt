@@ -5,10 +5,10 @@ ghost use Rattle.pooma_top.specs.Output.{AppendsFront, AppendsLess, IsAnswer, Is
 
 use crate::command::{Command, command_of};
 use crate::output::{Answer, answer_refused, answer_to};
-use crate::picker::Picker;
 use crate::status::Status;
 use pooma_check::{Cause, LimitName, Refusal};
 use pooma_io::{Failed, ReadAllError, Sink, Source, read_all};
+use pooma_run::Picker;
 use std::alloc::Global;
 
 /// The most bytes of a script.
