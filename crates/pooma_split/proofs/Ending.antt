@@ -1,7 +1,7 @@
 -- What the pieces of an assignment come to.
 use Rattle.std.proofs.Common.{refl, sym, ap, ◌∙◌, subst, inl, inr, ⊎_elim, arith, cond, take}
 use Rattle.std.specs.List.{filter_map, position_or_len}
-use Rattle.std.specs.Prelude.{◌≡◌, ℕ, suc, ◌+◌, ℤ, not, Option, None, Ok, Err, is_err, List, [], ◌∷◌, length, map, fold, slice_get, All}
+use Rattle.std.specs.Prelude.{◌≡◌, ◌≢◌, ℕ, suc, ◌+◌, ℤ, not, Option, None, Some, Ok, Err, is_err, List, [], ◌∷◌, length, map, fold, slice_get, All}
 use Rattle.pooma_domain.specs.Cells.{Interval, cells_of, IsIn}
 use Rattle.pooma_domain.proofs.Within.{length_of_cell}
 use Rattle.pooma_view.specs.Slots.{positions_of}
@@ -20,6 +20,7 @@ use Rattle.pooma_model.specs.Partitions.{IsPartition, changed_in_turn, changes_a
 use Rattle.pooma_model.specs.Parts.{parts_of}
 use Rattle.pooma_model.proofs.Lists.{Member, contains_of}
 use Rattle.pooma_model.proofs.Partitioning.{of_any}
+use Rattle.pooma_store.specs.Standing.{IsFresh}
 use Rattle.pooma_piece.specs.declared.outcome.Outcome.{Outcome}
 use Rattle.pooma_piece.specs.declared.outcome.Outcome.TheVariants.{Done}
 use Rattle.pooma_piece.specs.declared.task.Task.{Task}
@@ -138,4 +139,17 @@ module _ (laws : HasLaws) (declared : Declared) (number : ℕ) (target : Viewed)
       (λ some.
       subst (λ o. ComesTo declared number o results (assigned declared target value mask world)) (sym (fault_is ∙ some.1))
       (some.2, effect_is ∙ laws.faults declared target whole None all_boxes world (as_fault some.0) parts some.3))
+      (judged number values (λ box. Done) (λ box. refl) (length (positions_of target.slots)) all_boxes (all_long laws (positions_of target.slots) all_boxes parts))
+
+  -- where no piece answered a fault, fields that are not the target stay fresh
+  pub stay_fresh : fault_among plan results ≡ None → (new : World) → assigned declared target value mask world ≡ Becomes new → (other : ℕ) → other ≢ target.array → IsFresh declared.shapes declared.layouts objects world other
+      → IsFresh declared.shapes declared.layouts results.objects new other
+  stay_fresh faultless new becomes other apart fresh =
+      ⊎_elim
+      (λ none.
+      let comes : Becomes (fold (next_world laws declared standing.arrays number target whole world fit standing.has) world all_boxes) ≡ Becomes new =
+      ap Becomes (worlds_same none.1) ∙ sym (effect_is ∙ laws.becomes declared target whole None all_boxes world full parts none.1) ∙ becomes in
+      let same : fold (next_world laws declared standing.arrays number target whole world fit standing.has) world all_boxes ≡ new = cc in
+      subst (λ w. IsFresh declared.shapes declared.layouts results.objects w other) same (came.elsewhere other apart fresh))
+      (λ some. let clash : None ≡ Some some.0 = sym faultless ∙ fault_is ∙ some.1 in cc)
       (judged number values (λ box. Done) (λ box. refl) (length (positions_of target.slots)) all_boxes (all_long laws (positions_of target.slots) all_boxes parts))

@@ -4,7 +4,7 @@ use Rattle.std.proofs.lemmas.List.Elements.{All-head, All-tail}
 use Rattle.std.proofs.lemmas.List.{append-nil, length-set}
 use Rattle.std.proofs.lemmas.Option.{get_or_from_slice_get, slice_get-get_or, slice_get_within}
 use Rattle.std.specs.Option.{option_and_then, option_map, option_map_or}
-use Rattle.std.specs.Prelude.{◌≡◌, ℕ, zero, suc, ◌+◌, ◌<◌, ℤ, Option, Some, None, IsSome, List, [], ◌∷◌, ◌++◌, length, map, fold, slice_get, All, Contains}
+use Rattle.std.specs.Prelude.{◌≡◌, ◌≢◌, ℕ, zero, suc, ◌+◌, ◌<◌, ℤ, Option, Some, None, IsSome, List, [], ◌∷◌, ◌++◌, length, map, fold, slice_get, All, Contains}
 use Rattle.pooma_domain.specs.Cells.{Interval, cells_of, IsIn}
 use Rattle.pooma_view.specs.Slots.{cell_named, positions_of}
 use Rattle.pooma_view.specs.Views.{Viewed}
@@ -27,7 +27,7 @@ use Rattle.pooma_model.specs.Partitions.{IsOfOthers, IsPartition, changes_at}
 use Rattle.pooma_model.specs.Parts.{parts_of}
 use Rattle.pooma_model.proofs.Lists.{Member, contains_of, member_at, member_cases}
 use Rattle.pooma_store.specs.Numbering.{AreObjects, EachCell, HasPatch, changed_at, object_at, object_count}
-use Rattle.pooma_store.specs.Standing.{StandsFor}
+use Rattle.pooma_store.specs.Standing.{IsFresh, StandsFor}
 use Rattle.pooma_store.specs.Stored.{AreArrays}
 use Rattle.pooma_store.proofs.OwnerNumbers.{objects_counted}
 use Rattle.pooma_piece.specs.declared.outcome.Outcome.{Outcome}
@@ -234,6 +234,14 @@ module _ (laws : HasLaws) (declared : Declared) (arrays : AreArrays declared.sha
           (member_cases done (done_at box) q m);
     }
 
+    -- a field that is not the target stays fresh
+    pub fresh_next : (other : ℕ) → other ≢ target.array → IsFresh declared.shapes declared.layouts objects now other
+        → IsFresh declared.shapes declared.layouts (changed_at objects (object_for declared box target) changes) (next_world now box) other
+    fresh_next other apart fresh =
+        laws.fresh_elsewhere declared.shapes declared.layouts (changed_at objects (object_for declared box target) changes) now target.array changes other apart
+        (laws.fresh declared.shapes declared.layouts objects now target.array (owner_of (layout_at declared target.array) (cell_named target.slots (map (λ axis. axis.first) box))) changes other goes.objects_are patch
+        (λ same. absurd (apart same)) fresh)
+
   -- what a box's piece answers
   abbrev pub answer_for : List Interval → Outcome
   answer_for box = first_fault_or value_of (cells_of box) Done
@@ -243,12 +251,13 @@ module _ (laws : HasLaws) (declared : Declared) (arrays : AreArrays declared.sha
     pub answers : after.outcomes ≡ before.outcomes ++ map answer_for rest
     pub done : List (List ℤ)
     pub goes : Goes (k + length rest) (fold next_world now rest) done after.objects
+    pub elsewhere : (other : ℕ) → other ≢ target.array → IsFresh declared.shapes declared.layouts before.objects now other → IsFresh declared.shapes declared.layouts after.objects (fold next_world now rest) other
 
   pub turn : (rest : List (List Interval)) (k : ℕ) (now : World) (done : List (List ℤ)) (results : Results Numbered Outcome) → ((j : ℕ) → slice_get boxes (k + j) ≡ slice_get rest j) → Goes k now done results.objects
       → Came k now rest results (fold (with_work pieces) results (map (piece_of declared number (task.Assign target) code) rest))
   turn [] k now done results stand goes =
       let same : k ≡ k + 0 = omega arith in
-      record { answers = sym (append-nil results.outcomes); done = done; goes = subst (λ n. Goes n now done results.objects) same goes }
+      record { answers = sym (append-nil results.outcomes); done = done; goes = subst (λ n. Goes n now done results.objects) same goes; elsewhere = λ other apart fresh. fresh }
   turn (box ∷ rest) k now done results stand goes =
       let first : k + 0 ≡ k = omega arith in
       let at : slice_get boxes k ≡ Some box = ap (slice_get boxes) (sym first) ∙ stand 0 in
@@ -265,4 +274,6 @@ module _ (laws : HasLaws) (declared : Declared) (arrays : AreArrays declared.sha
         goes =
             let all : suc k + length rest ≡ k + suc (length rest) = omega arith in
             subst (λ n. Goes n (fold next_world (next_world now box) rest) came.done (fold (with_work pieces) one (map (piece_of declared number (task.Assign target) code) rest)).objects) all came.goes;
+        elsewhere = λ other apart fresh. came.elsewhere other apart
+            (subst (λ os. IsFresh declared.shapes declared.layouts os (next_world now box) other) (sym objects) (fresh_next k box at now done results.objects goes other apart fresh));
       }

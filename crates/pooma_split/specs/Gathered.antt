@@ -1,6 +1,6 @@
 -- What the laws of the crates below say of statements in parts and of the objects that they change, in one place. No contract
 -- of a public call cites it.
-use Rattle.std.specs.Prelude.{◌≡◌, ◌↔◌, ℕ, ◌<◌, ℤ, Option, None, Some, List, ◌++◌, length, slice_get, All, Contains}
+use Rattle.std.specs.Prelude.{◌≡◌, ◌≢◌, ◌↔◌, ℕ, ◌<◌, ℤ, Option, None, Some, List, ◌++◌, length, slice_get, All, Contains}
 use Rattle.std.specs.List.Sorted.{IsPermutation}
 use Rattle.pooma_domain.specs.Cells.{Interval, cells_of, IsIn}
 use Rattle.pooma_view.specs.Slots.{cell_named, positions_of}
@@ -50,3 +50,4 @@ pub record HasLaws : Type 0 where
   pub still : (layouts : List (List CutAxis)) (objects : List Numbered) (k : ℕ) (changes : List Change) → AreObjects layouts objects → k < length objects → AreObjects layouts (changed_at objects k changes)
   pub stands : (layouts : List (List CutAxis)) (objects : List Numbered) (world : World) (array p : ℕ) (changes : List Change) → AreObjects layouts objects → HasPatch layouts array p → IsFull (array_of world array) → EachCell changes (λ cell. Owns (layout_at layouts array) p cell) → StandsFor layouts objects world → StandsFor layouts (changed_at objects (object_of layouts array p) changes) (changed world array changes)
   pub fresh : (shapes : List Shaped) (layouts : List (List CutAxis)) (objects : List Numbered) (world : World) (array p : ℕ) (changes : List Change) (other : ℕ) → AreObjects layouts objects → HasPatch layouts array p → (other ≡ array → EachCell changes (λ cell. Owns (layout_at layouts array) p cell → IsIn (array_shape shapes other).physical cell)) → IsFresh shapes layouts objects world other → IsFresh shapes layouts (changed_at objects (object_of layouts array p) changes) world other
+  pub fresh_elsewhere : (shapes : List Shaped) (layouts : List (List CutAxis)) (objects : List Numbered) (world : World) (array : ℕ) (changes : List Change) (other : ℕ) → other ≢ array → IsFresh shapes layouts objects world other → IsFresh shapes layouts objects (changed world array changes) other

@@ -1,4 +1,4 @@
-ghost use Rattle.std.specs.Prelude.{ℕ, ◌≡◌, ◌<◌, ℤ, Option, List, map, IsTrue, All, Contains};
+ghost use Rattle.std.specs.Prelude.{ℕ, ◌≡◌, ◌≢◌, ◌<◌, ℤ, Option, None, List, map, IsTrue, All, Contains};
 ghost use Rattle.std.specs.List.Sorted.{IsPermutation};
 ghost use Rattle.pooma_field.specs.Numbered.{Numbered, IsFull};
 ghost use Rattle.pooma_field.specs.Worlds.{World, array_of};
@@ -10,7 +10,7 @@ ghost use Rattle.pooma_domain.specs.Cells.{Interval};
 ghost use Rattle.pooma_machine.specs.Values.{lent_by};
 ghost use Rattle.pooma_model.specs.declared.statement.Action.{Action};
 ghost use Rattle.pooma_model.specs.declared.statement.Action.TheVariants as action;
-ghost use Rattle.pooma_model.specs.Assigning.{assigned, whole_value};
+ghost use Rattle.pooma_model.specs.Assigning.{assigned, whole_value, Becomes};
 ghost use Rattle.pooma_model.specs.Declarations.{Declared, value_in};
 ghost use Rattle.pooma_model.specs.Fit.{IsFit};
 ghost use Rattle.pooma_model.specs.Partitions.{IsPartition, numbers_in_turn};
@@ -19,6 +19,7 @@ ghost use Rattle.pooma_model.specs.Reducing.{reduced};
 ghost use Rattle.pooma_piece.specs.Lent.{fits};
 ghost use Rattle.pooma_piece.specs.Pieces.{Pieced, requests_of};
 ghost use Rattle.pooma_store.specs.Numbering.{areas_of, object_count};
+ghost use Rattle.pooma_store.specs.Standing.{IsFresh};
 ghost use Rattle.pooma_store.specs.Stored.{AreArrays};
 ghost use Rattle.pooma_view.specs.Slots.{positions_of};
 ghost use Rattle.pooma_view.specs.Views.{Viewed};
@@ -41,10 +42,10 @@ use pooma_store::{numbers_of_owners, objects_change};
 /// read in an external cell are fresh; the scalars handed in are the world's.
 ///
 /// Of an assignment: either pieces answer a fault, and the earliest of theirs is the assignment's, at its position, or none
-/// does, and the objects stand for the world that it becomes. Of a reduction: either pieces answer a fault, and the earliest
-/// of theirs is the reduction's, or each answers what the reduction keeps of the numbers at its positions, and these numbers,
-/// box after box in any order, come to its result or to its fault at the sum. They are numbers of 64 bits where those of the
-/// objects, of the scalars and of its literals are.
+/// does, and the objects stand for the world that it becomes; fields that are not its target are then as fresh as before. Of a
+/// reduction: either pieces answer a fault, and the earliest of theirs is the reduction's, or each answers what the reduction
+/// keeps of the numbers at its positions, and these numbers, box after box in any order, come to its result or to its fault at
+/// the sum. They are numbers of 64 bits where those of the objects, of the scalars and of its literals are.
 pub fn statements_in_pieces()
     ensures assigns { (declared : Declared) (objects : List Numbered) (world : World) (number : ℕ) (target : Viewed) (value : Expr) (mask : Option Expr)
         → IsFit declared (action.Assign target value mask)
@@ -53,6 +54,13 @@ pub fn statements_in_pieces()
         (fault_among (pieces_of declared world.scalars number (action.Assign target value mask)) (done_in_order (pieces_of declared world.scalars number (action.Assign target value mask)) objects))
         (done_in_order (pieces_of declared world.scalars number (action.Assign target value mask)) objects)
         (assigned declared target value mask world) }
+    ensures fresh { (declared : Declared) (objects : List Numbered) (world new : World) (number : ℕ) (target : Viewed) (value : Expr) (mask : Option Expr) (other : ℕ)
+        → IsFit declared (action.Assign target value mask)
+        → Stands declared objects world (views_of (whole_value target value mask)) → IsFull (array_of world target.array)
+        → fault_among (pieces_of declared world.scalars number (action.Assign target value mask)) (done_in_order (pieces_of declared world.scalars number (action.Assign target value mask)) objects) ≡ None
+        → assigned declared target value mask world ≡ Becomes new → other ≢ target.array
+        → IsFresh declared.shapes declared.layouts objects world other
+        → IsFresh declared.shapes declared.layouts (done_in_order (pieces_of declared world.scalars number (action.Assign target value mask)) objects).objects new other }
     ensures reduces { (declared : Declared) (objects : List Numbered) (world : World) (number scalar : ℕ) (reduction : Reduction) (positions : List Interval) (value : Expr)
         → IsFit declared (action.Reduce scalar reduction positions value)
         → Stands declared objects world (views_of value)

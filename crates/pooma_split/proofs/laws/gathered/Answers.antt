@@ -21,4 +21,5 @@ returns c = record {
   still = c.numbers_of_owners.ensures.objects;
   stands = c.objects_change.ensures.changed;
   fresh = c.objects_change.ensures.fresh;
+  fresh_elsewhere = c.objects_change.ensures.fresh_elsewhere;
 }

@@ -1,4 +1,4 @@
-use Rattle.pooma_split.proofs.Ending.{assign_comes}
+use Rattle.pooma_split.proofs.Ending.{assign_comes, stay_fresh}
 use Rattle.pooma_split.proofs.Gathering.{order_words, reduce_gathers}
 use Rattle.pooma_split.proofs.laws.statements_in_pieces.Goals as goal
 
@@ -6,6 +6,8 @@ pub returns : goal.returns
 returns c = record {
   assigns = λ declared objects world number target value mask fit standing full.
       assign_comes c.gathered.ensures declared number target value mask world fit objects standing full;
+  fresh = λ declared objects world new number target value mask other fit standing full faultless becomes apart fresh.
+      stay_fresh c.gathered.ensures declared number target value mask world fit objects standing full faultless new becomes other apart fresh;
   reduces = λ declared objects world number scalar reduction positions value fit standing.
       reduce_gathers c.gathered.ensures declared number scalar reduction positions value world fit objects standing;
   words = λ declared objects world scalar reduction positions value fit standing words few literals order moved.
