@@ -49,6 +49,7 @@ use Rattle.pooma_split.specs.Statements.{GathersTo, Stands, as_fault, done_in_or
 use Rattle.pooma_split.specs.Words.{AllWords, IsWord, literals_fit}
 use Rattle.pooma_split.proofs.Agreeing.{AgreeOn, same_first, same_numbers}
 use Rattle.pooma_split.proofs.Boxes.{part_within}
+use Rattle.pooma_split.proofs.Counting.{numbers_counted}
 use Rattle.pooma_split.proofs.Ending.{all_long, no_fault, statements_are}
 use Rattle.pooma_split.proofs.Faulting.{fault_for, faults_are, judged}
 use Rattle.pooma_split.proofs.Lending.{lent_of_view}
@@ -187,6 +188,14 @@ module _ (laws : HasLaws) (declared : Declared) (number : ℕ) (scalar : ℕ) (r
     where
       in_order : (order : List (List Interval)) → IsPermutation all_boxes order → All (λ box. fault_at (given_at declared world whole None) (cells_of box) ≡ None) all_boxes → All (λ box. fault_at (given_at declared world whole None) (cells_of box) ≡ None) order
       in_order order moved none = All-permutation (λ box. fault_at (given_at declared world whole None) (cells_of box) ≡ None) all_boxes order moved none
+
+  -- where no piece answered a fault there are as many numbers as positions
+  pub all_counted : fault_among plan results ≡ None → length (numbers_in_turn values all_boxes) ≡ length (cells_of positions)
+  all_counted faultless =
+      ⊎_elim
+      (λ none. numbers_counted values laws positions all_boxes parts none.1)
+      (λ some. let clash : None ≡ Some some.0 = sym faultless ∙ fault_is ∙ some.1 in cc)
+      (judged number values kept_for (λ box. refl) (length positions) all_boxes (all_long laws positions all_boxes parts))
 
   -- numbers of objects, as the pieces of a box see them
   module _ (words : AllWords objects) (few : All IsWord world.scalars) (literals : literals_fit whole ≡ true) where

@@ -1,5 +1,7 @@
 pub mod Agreeing
+pub mod Asking
 pub mod Boxes
+pub mod Counting
 pub mod Ending
 pub mod Faulting
 pub mod Fitting

@@ -1,8 +1,8 @@
 -- What the laws of the crates below say of statements in parts and of the objects that they change, in one place. No contract
 -- of a public call cites it.
-use Rattle.std.specs.Prelude.{◌≡◌, ◌≢◌, ◌↔◌, ℕ, ◌<◌, ℤ, Option, None, Some, List, ◌++◌, length, slice_get, All, Contains}
+use Rattle.std.specs.Prelude.{◌≡◌, ◌≢◌, ◌↔◌, ℕ, ◌<◌, ℤ, Option, None, Some, List, ◌++◌, length, slice_get, All, AllPairs, Contains}
 use Rattle.std.specs.List.Sorted.{IsPermutation}
-use Rattle.pooma_domain.specs.Cells.{Interval, cells_of, IsIn}
+use Rattle.pooma_domain.specs.Cells.{Interval, cells_of, IsBefore, IsIn}
 use Rattle.pooma_view.specs.Slots.{cell_named, positions_of}
 use Rattle.pooma_view.specs.Views.{Viewed}
 use Rattle.pooma_field.specs.Numbered.{Change, Numbered, IsFull}
@@ -28,6 +28,8 @@ use Rattle.pooma_store.specs.Standing.{IsFresh, StandsFor, shape_at as array_sha
 pub record HasLaws : Type 0 where
   -- the positions and the parts
   pub members : (box : List Interval) (p : List ℤ) → Contains (cells_of box) p ↔ IsIn box p
+  pub once : (box : List Interval) (p : List ℤ) (j k : ℕ) → slice_get (cells_of box) j ≡ Some p → slice_get (cells_of box) k ≡ Some p → j ≡ k
+  pub ascending : (box : List Interval) → AllPairs IsBefore (cells_of box)
   pub partition : (declared : Declared) (views : List Viewed) (positions : List Interval) → IsPartition positions (parts_of declared views positions)
   pub allocates : (layout : List CutAxis) (p : ℕ) (owned : List Interval) (c : List ℤ) → All IsCutAxis layout → slice_get (owned_boxes layout) p ≡ Some owned → IsIn owned c → IsIn (allocated_of layout owned) c
   pub any_order : (whole : List Interval) (boxes others : List (List Interval)) → IsPermutation boxes others → IsPartition whole boxes → IsPartition whole others

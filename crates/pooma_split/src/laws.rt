@@ -1,4 +1,4 @@
-ghost use Rattle.std.specs.Prelude.{ℕ, ◌≡◌, ◌≢◌, ◌<◌, ℤ, Option, None, List, map, IsTrue, All, Contains};
+ghost use Rattle.std.specs.Prelude.{ℕ, ◌≡◌, ◌≢◌, ◌<◌, ℤ, Option, None, List, length, map, IsTrue, All, Contains};
 ghost use Rattle.std.specs.List.Sorted.{IsPermutation};
 ghost use Rattle.pooma_field.specs.Numbered.{Numbered, IsFull};
 ghost use Rattle.pooma_field.specs.Worlds.{World, array_of};
@@ -6,7 +6,8 @@ ghost use Rattle.pooma_expr.specs.declared.reduction.Reduction.{Reduction};
 ghost use Rattle.pooma_expr.specs.declared.tree.Expr.{Expr};
 ghost use Rattle.pooma_expr.specs.Reductions.{AllFit};
 ghost use Rattle.pooma_expr.specs.Trees.{bound, views_of};
-ghost use Rattle.pooma_domain.specs.Cells.{Interval};
+ghost use Rattle.pooma_domain.specs.Cells.{Interval, cells_of};
+ghost use Rattle.pooma_machine.specs.Journal.{entry_of};
 ghost use Rattle.pooma_machine.specs.Values.{lent_by};
 ghost use Rattle.pooma_model.specs.declared.statement.Action.{Action};
 ghost use Rattle.pooma_model.specs.declared.statement.Action.TheVariants as action;
@@ -17,6 +18,7 @@ ghost use Rattle.pooma_model.specs.Partitions.{IsPartition, numbers_in_turn};
 ghost use Rattle.pooma_model.specs.Parts.{parts_of};
 ghost use Rattle.pooma_model.specs.Reducing.{reduced};
 ghost use Rattle.pooma_piece.specs.Lent.{fits};
+ghost use Rattle.pooma_piece.specs.Meaning.{pieces};
 ghost use Rattle.pooma_piece.specs.Pieces.{Pieced, requests_of};
 ghost use Rattle.pooma_store.specs.Numbering.{areas_of, object_count};
 ghost use Rattle.pooma_store.specs.Standing.{IsFresh};
@@ -44,8 +46,9 @@ use pooma_store::{numbers_of_owners, objects_change};
 /// Of an assignment: either pieces answer a fault, and the earliest of theirs is the assignment's, at its position, or none
 /// does, and the objects stand for the world that it becomes; fields that are not its target are then as fresh as before. Of a
 /// reduction: either pieces answer a fault, and the earliest of theirs is the reduction's, or each answers what the reduction
-/// keeps of the numbers at its positions, and these numbers, box after box in any order, come to its result or to its fault at
-/// the sum. They are numbers of 64 bits where those of the objects, of the scalars and of its literals are.
+/// keeps of the numbers at its positions, one for each, and these numbers, box after box in any order, come to its result or to
+/// its fault at the sum. They are numbers of 64 bits where those of the objects, of the scalars and of its literals are. It
+/// leaves the objects as they are.
 pub fn statements_in_pieces()
     ensures assigns { (declared : Declared) (objects : List Numbered) (world : World) (number : ℕ) (target : Viewed) (value : Expr) (mask : Option Expr)
         → IsFit declared (action.Assign target value mask)
@@ -68,6 +71,13 @@ pub fn statements_in_pieces()
         (fault_among (pieces_of declared world.scalars number (action.Reduce scalar reduction positions value)) (done_in_order (pieces_of declared world.scalars number (action.Reduce scalar reduction positions value)) objects))
         (done_in_order (pieces_of declared world.scalars number (action.Reduce scalar reduction positions value)) objects).outcomes
         (reduced declared scalar reduction positions value world) }
+    ensures counted { (declared : Declared) (objects : List Numbered) (world : World) (number scalar : ℕ) (reduction : Reduction) (positions : List Interval) (value : Expr)
+        → IsFit declared (action.Reduce scalar reduction positions value)
+        → Stands declared objects world (views_of value)
+        → fault_among (pieces_of declared world.scalars number (action.Reduce scalar reduction positions value)) (done_in_order (pieces_of declared world.scalars number (action.Reduce scalar reduction positions value)) objects) ≡ None
+        → length (numbers_in_turn (value_in declared world value) (parts_of declared (views_of (bound world.scalars value)) positions)) ≡ length (cells_of positions) }
+    ensures leaves { (declared : Declared) (scalars : List ℤ) (objects : List Numbered) (number scalar : ℕ) (reduction : Reduction) (positions : List Interval) (value : Expr)
+        → (done_in_order (pieces_of declared scalars number (action.Reduce scalar reduction positions value)) objects).objects ≡ objects }
     ensures words { (declared : Declared) (objects : List Numbered) (world : World) (scalar : ℕ) (reduction : Reduction) (positions : List Interval) (value : Expr)
         → IsFit declared (action.Reduce scalar reduction positions value)
         → Stands declared objects world (views_of value) → AllWords objects → All IsWord world.scalars → IsTrue (literals_fit value)
@@ -79,7 +89,7 @@ pub fn statements_in_pieces()
 
 /// The pieces of an action that fits, as a law for proofs: their boxes have each of its positions once. Each piece asks for
 /// objects that are there, and fits the areas of their patches: each cell that it reads or sets lies in the patch in which it
-/// does.
+/// does. What the pieces ask for does not depend on the scalars' numbers.
 pub fn pieces_of_statements()
     ensures assigns { (declared : Declared) (scalars : List ℤ) (number : ℕ) (target : Viewed) (value : Expr) (mask : Option Expr)
         → IsPartition (positions_of target.slots) (map (λ piece. piece.positions) (pieces_of declared scalars number (action.Assign target value mask))) }
@@ -93,6 +103,8 @@ pub fn pieces_of_statements()
         → IsTrue (fits piece (lent_by (areas_of declared.layouts) (requests_of piece)).written (lent_by (areas_of declared.layouts) (requests_of piece)).reads) }
     ensures statement { (declared : Declared) (scalars : List ℤ) (number : ℕ) (act : Action) (piece : Pieced) → AreArrays declared.shapes declared.layouts
         → IsFit declared act → Contains (pieces_of declared scalars number act) piece → piece.statement ≡ number }
+    ensures entries { (declared : Declared) (xs ys : List ℤ) (number : ℕ) (act : Action)
+        → map (entry_of pieces) (pieces_of declared xs number act) ≡ map (entry_of pieces) (pieces_of declared ys number act) }
 {
     gathered();
     pieces_fit();

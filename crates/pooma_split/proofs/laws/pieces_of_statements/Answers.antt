@@ -9,6 +9,7 @@ use Rattle.pooma_piece.specs.declared.task.Task.TheVariants as task
 use Rattle.pooma_piece.specs.Pieces.{requests_of}
 use Rattle.pooma_store.specs.Numbering.{areas_of}
 use Rattle.pooma_split.specs.Splits.{views_with}
+use Rattle.pooma_split.proofs.Asking.{entries_alike}
 use Rattle.pooma_split.proofs.Fitting.{each_suits, places_are}
 use Rattle.pooma_split.proofs.laws.pieces_of_statements.Goals as goal
 
@@ -29,4 +30,5 @@ returns c = record {
       (c.pieces_fit.ensures piece (lent_by (areas_of declared.layouts) (requests_of piece)).written (lent_by (areas_of declared.layouts) (requests_of piece)).reads).1
       (each_suits c.gathered.ensures declared scalars number act piece arrays fit there).fitting;
   statement = λ declared scalars number act piece arrays fit there. (each_suits c.gathered.ensures declared scalars number act piece arrays fit there).statement;
+  entries = λ declared xs ys number act. entries_alike declared xs ys number act;
 }

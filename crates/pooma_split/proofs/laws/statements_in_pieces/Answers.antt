@@ -1,5 +1,9 @@
+use Rattle.pooma_expr.specs.Trees.{bound, views_of}
+use Rattle.pooma_law.specs.Ser.{at_first}
+use Rattle.pooma_model.specs.Parts.{parts_of}
+use Rattle.pooma_split.proofs.Asking.{reduce_leaves}
 use Rattle.pooma_split.proofs.Ending.{assign_comes, stay_fresh}
-use Rattle.pooma_split.proofs.Gathering.{order_words, reduce_gathers}
+use Rattle.pooma_split.proofs.Gathering.{all_counted, order_words, reduce_gathers}
 use Rattle.pooma_split.proofs.laws.statements_in_pieces.Goals as goal
 
 pub returns : goal.returns
@@ -10,6 +14,10 @@ returns c = record {
       stay_fresh c.gathered.ensures declared number target value mask world fit objects standing full faultless new becomes other apart fresh;
   reduces = λ declared objects world number scalar reduction positions value fit standing.
       reduce_gathers c.gathered.ensures declared number scalar reduction positions value world fit objects standing;
+  counted = λ declared objects world number scalar reduction positions value fit standing faultless.
+      all_counted c.gathered.ensures declared number scalar reduction positions value world fit objects standing faultless;
+  leaves = λ declared scalars objects number scalar reduction positions value.
+      reduce_leaves declared number reduction (bound scalars value) (parts_of declared (views_of (bound scalars value)) positions) (at_first objects);
   words = λ declared objects world scalar reduction positions value fit standing words few literals order moved.
       order_words c.gathered.ensures declared 0 scalar reduction positions value world fit objects standing words few literals order moved;
 }
