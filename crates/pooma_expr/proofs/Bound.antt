@@ -1,8 +1,7 @@
 -- What the expression with numbers in place of its scalars has of the expression.
-use Rattle.std.proofs.Common.{◌≡◌, ℕ, ◌+◌, max, ℤ, pos, refl, sym, ap, ◌∙◌, arith, List, []}
+use Rattle.std.proofs.Common.{◌≡◌, ℕ, max, ℤ, pos, refl, sym, ap, ◌∙◌, arith, List, []}
 use Rattle.std.specs.Prelude.{slice_index_or}
 use Rattle.pooma_view.specs.Views.{Viewed}
-use Rattle.pooma_expr.specs.declared.tree.Op.{Op}
 use Rattle.pooma_expr.specs.declared.tree.Expr.{Expr}
 use Rattle.pooma_expr.specs.declared.tree.Expr.TheViews.{roll-Expr}
 use Rattle.pooma_expr.specs.declared.tree.Expr.TheOpen.{Expr-F}

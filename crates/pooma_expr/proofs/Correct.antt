@@ -1,5 +1,5 @@
 -- The operations of an expression come to its value, and each finds what it needs.
-use Rattle.std.proofs.Common.{◌≡◌, ℕ, zero, suc, ◌+◌, ◌-◌, ◌<◌, ◌≤◌, max, ℤ, pos, Bool, true, false, cond, refl, sym, ap, subst, ◌∙◌, arith, zero-add, List, [], ◌∷◌, ◌++◌, length, append_assoc, append-nil, length-append, Result, Ok, Err, Option, Some, None}
+use Rattle.std.proofs.Common.{◌≡◌, ℕ, suc, ◌+◌, ◌-◌, ◌<◌, ◌≤◌, max, ℤ, pos, Bool, true, false, cond, refl, sym, ap, subst, ◌∙◌, arith, zero-add, List, [], ◌∷◌, ◌++◌, length, append_assoc, append-nil, length-append, Ok, Err, Some}
 use Rattle.std.specs.Prelude.{neg_ℤ, unsigned_abs, slice_index_or, slice_get, if◌then◌else◌}
 use Rattle.std.specs.Ordering.{int_eq}
 use Rattle.pooma_view.specs.Slots.{cell_named}
@@ -8,12 +8,11 @@ use Rattle.pooma_expr.specs.declared.operation.Operation.{Operation}
 use Rattle.pooma_expr.specs.declared.operation.Operation.TheVariants.{Push, PushIndex, PushRead, Negate, Absolute, Apply, SkipIfZero, Skip}
 use Rattle.pooma_expr.specs.declared.tree.Op.{Op}
 use Rattle.pooma_expr.specs.declared.tree.Expr.{Expr}
-use Rattle.pooma_expr.specs.declared.tree.Expr.TheOpen.{Expr-F}
 use Rattle.pooma_expr.specs.Values.{Checked, Contents, exact, and_then, result_of, value_by, value}
 use Rattle.pooma_expr.specs.Trees.{views_by, views_of, greatest_by, axes_at, axes_needed}
 use Rattle.pooma_expr.specs.Code.{Emitted, leaf_code, one_code, both_code, choice_code, emitted_by, emitted, places_by, places_of}
 use Rattle.pooma_expr.specs.Reads.{AgreeWith}
-use Rattle.pooma_expr.specs.Machine.{Step, push, on_top, top_of, step_of, then_on, outcome, CanStep, Leads, CanRun}
+use Rattle.pooma_expr.specs.Machine.{Step, push, step_of, then_on, outcome, CanRun}
 use Rattle.pooma_expr.proofs.Trees.{EachForm, by_form, fold-Literal, fold-Scalar, fold-Index, fold-Read, fold-Neg, fold-Abs, fold-Bin, fold-Where}
 
 module _ (number : ℕ → ℤ) (p : List ℤ) where

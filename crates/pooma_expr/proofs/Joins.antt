@@ -1,10 +1,10 @@
 -- What is joined of two lists one after the other.
-use Rattle.std.proofs.Common.{◌≡◌, ℕ, zero, suc, ◌+◌, ◌-◌, ◌*◌, ◌^◌, ◌<◌, ◌≤◌, ◌≢◌, max, min, ℤ, pos, negsuc, ◌+ℤ◌, Bool, true, false, cond, ◌&&◌, ◌||◌, refl, sym, ap, subst, ◌∙◌, arith, List, [], ◌∷◌, ◌++◌, length, length-append, append-nil, Ok}
+use Rattle.std.proofs.Common.{◌≡◌, ℕ, suc, ◌+◌, ◌^◌, ◌<◌, ◌≤◌, ℤ, pos, negsuc, ◌+ℤ◌, Bool, true, false, cond, ◌&&◌, ◌||◌, refl, sym, ap, ◌∙◌, arith, List, [], ◌∷◌, ◌++◌, length, length-append, Ok}
 use Rattle.std.specs.Prelude.{FitsSigned, bit_and, bit_or, fold, count_by, int_lt, nat_eq, nat_lt}
-use Rattle.std.specs.List.{list_all, list_any, sum_by}
-use Rattle.std.specs.Int.{w64, int_min, int_max, int_bit_and, int_bit_or, cast_signed, cast_unsigned, from_bool, bit_at}
+use Rattle.std.specs.List.{list_all, list_any}
+use Rattle.std.specs.Int.{w64, int_min, int_max, cast_signed, cast_unsigned, from_bool}
 use Rattle.std.proofs.Math.Facts.{sfits_to_z}
-use Rattle.std.proofs.lemmas.Int.{ints, clamps, to_z-of_z, of_z-to_z}
+use Rattle.std.proofs.lemmas.Int.{ints, clamps, of_z-to_z}
 use Rattle.std.proofs.lemmas.Nat.{and_assoc, and_le_l, or_lt}
 use Rattle.std.proofs.lemmas.Nat.Bits.{bit_at_or, same_from_bits}
 use Rattle.std.proofs.lemmas.List.Sums.{fold-append, count_by-le-length, sum_by-cons, sum_by-append}
@@ -12,7 +12,7 @@ use Rattle.std.proofs.lemmas.Bool.Decides.{nat_tests}
 use Rattle.pooma_expr.specs.declared.reduction.Reduction.{Reduction}
 use Rattle.pooma_expr.specs.declared.reduction.Reduction.TheVariants as of
 use Rattle.pooma_num.specs.Sum.{Sum, merged}
-use Rattle.pooma_expr.specs.Values.{Checked, truth}
+use Rattle.pooma_expr.specs.Values.{truth}
 use Rattle.pooma_expr.specs.Reductions.{result_over, is_set, sum_of, join_all, join_of, AllFit, Kept, StandsFor}
 
 below : (x : ℤ) → FitsSigned w64 x → cast_unsigned w64 x < 2 ^ 64

@@ -5,3 +5,4 @@ pub mod Correct
 pub mod Bound
 pub mod Kept
 pub mod Joins
+pub mod Words

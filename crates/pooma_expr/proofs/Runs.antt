@@ -1,5 +1,5 @@
 -- A run from operation to operation.
-use Rattle.std.proofs.Common.{◌≡◌, ℕ, zero, suc, ◌+◌, ◌-◌, ◌<◌, ◌≤◌, ℤ, pos, Bool, true, false, cond, refl, sym, ap, subst, ◌∙◌, arith, List, [], ◌∷◌, length, get_or, drop, drop-cons, length-drop, Result, Ok, Err, add-one}
+use Rattle.std.proofs.Common.{◌≡◌, ℕ, zero, suc, ◌+◌, ◌-◌, ◌<◌, ◌≤◌, ℤ, pos, Bool, true, false, cond, refl, sym, ap, subst, ◌∙◌, arith, List, [], ◌∷◌, length, get_or, drop, drop-cons, length-drop, Ok, Err}
 use Rattle.std.proofs.Math.Seq.{drop-drop}
 use Rattle.std.proofs.lemmas.List.{drop_all}
 use Rattle.std.specs.Prelude.{neg_ℤ, unsigned_abs, slice_index_or}
@@ -8,7 +8,7 @@ use Rattle.pooma_num.specs.declared.fault.FaultKind.{FaultKind}
 use Rattle.pooma_expr.specs.declared.operation.Operation.{Operation}
 use Rattle.pooma_expr.specs.declared.operation.Operation.TheVariants.{Push, PushIndex, PushRead, Negate, Absolute, Apply, SkipIfZero, Skip}
 use Rattle.pooma_expr.specs.Values.{Checked, exact, result_of}
-use Rattle.pooma_expr.specs.Machine.{Step, push, on_top, top_of, step_of, then_on, outcome, CanStep, Leads, CanRun}
+use Rattle.pooma_expr.specs.Machine.{Step, push, top_of, step_of, then_on, outcome, CanStep, Leads, CanRun}
 
 -- what holds of two numbers holds of equal ones
 moved : (Next : ℕ → ℕ → Type 0) (m n h k : ℕ) → m ≡ n → h ≡ k → Next m h → Next n k

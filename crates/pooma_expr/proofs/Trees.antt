@@ -1,5 +1,5 @@
 -- Folds of an expression at each of its forms, and induction over expressions.
-use Rattle.std.proofs.Common.{◌≡◌, ℕ, ℤ, refl, sym, ap, subst, ◌∙◌}
+use Rattle.std.proofs.Common.{◌≡◌, ℕ, ℤ, sym, ap, subst, ◌∙◌}
 use Rattle.pooma_view.specs.Views.{Viewed}
 use Rattle.pooma_expr.specs.declared.tree.Op.{Op}
 use Rattle.pooma_expr.specs.declared.tree.Expr.{Expr}

@@ -5,3 +5,4 @@ pub mod Code
 pub mod Compiled
 pub mod Machine
 pub mod Reductions
+pub mod Words

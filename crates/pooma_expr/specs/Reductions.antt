@@ -1,5 +1,5 @@
 -- What a reduction makes of a whole list of numbers, and how a part of the list is kept.
-use Rattle.std.specs.Prelude.{◌≡◌, ℕ, Bool, not, ℤ, pos, ◌+ℤ◌, FitsSigned, if◌then◌else◌, Ok, List, [], ◌∷◌, length, count_by, fold}
+use Rattle.std.specs.Prelude.{◌≡◌, ℕ, Bool, not, ℤ, pos, ◌+ℤ◌, FitsSigned, Ok, List, [], ◌∷◌, length, count_by, fold}
 use Rattle.std.specs.List.{list_all, list_any}
 use Rattle.std.specs.Int.{w64, int_min, int_max, int_bit_and, int_bit_or}
 use Rattle.std.specs.Ordering.{int_eq}

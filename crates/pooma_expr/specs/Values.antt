@@ -1,5 +1,5 @@
 -- The value of an expression at a position: its number, or the fault that is met first from left to right.
-use Rattle.std.specs.Prelude.{ℕ, ◌^◌, Bool, not, ℤ, pos, negsuc, neg_ℤ, ◌+ℤ◌, ◌-ℤ◌, ◌*ℤ◌, ◌==◌, nat_lt, int_lt, int_le, int_div, int_rem, unsigned_abs, if◌then◌else◌, Result, Ok, Err, List, slice_index_or}
+use Rattle.std.specs.Prelude.{◌^◌, Bool, not, ℤ, pos, negsuc, neg_ℤ, ◌+ℤ◌, ◌-ℤ◌, ◌*ℤ◌, nat_lt, int_lt, int_le, int_div, int_rem, unsigned_abs, if◌then◌else◌, Result, Ok, Err, List, slice_index_or}
 use Rattle.std.specs.Int.{w64, int_min, int_max, int_bit_and, int_bit_or}
 use Rattle.std.specs.Ordering.{int_eq}
 use Rattle.pooma_num.specs.declared.fault.FaultKind.{FaultKind}

@@ -1,8 +1,9 @@
 //! Codes of expressions.
-ghost use Rattle.std.specs.Prelude.{◌≡◌, ◌≤◌, ℤ, List, [], length, IfOk};
+ghost use Rattle.std.specs.Prelude.{◌≡◌, ◌≤◌, ℤ, List, [], length, IfOk, IsTrue};
 ghost use Rattle.pooma_expr.specs.Code.{emitted, places_of};
 ghost use Rattle.pooma_expr.specs.Trees.{axes_needed, bound, depth_of, scalars_needed, views_of};
 ghost use Rattle.pooma_expr.specs.Values.{Contents, value};
+ghost use Rattle.pooma_expr.specs.Words.{literals_fit};
 
 use crate::binding::bind;
 use crate::emit::emit;
@@ -69,6 +70,9 @@ impl Code {
         ensures value { IfOk result (λ code. (has : Contents) (p : List ℤ) → value [] has code p ≡ value scalars.now has expr.now p) }
         ensures views { IfOk result (λ code. views_of code ≡ views_of expr.now) }
         ensures axes { IfOk result (λ code. axes_needed code ≡ axes_needed expr.now) }
+
+        // Each literal was gone over, so they are numbers of 64 bits.
+        ensures literals { IfOk result (λ code. IsTrue (literals_fit expr.now)) }
     {
         let tree = bind(alloc, expr, scalars)?;
         let mut operations = Vec::new(alloc);

@@ -1,4 +1,4 @@
-use Rattle.std.proofs.Common.{◌≡◌, ◌++◌, length, ap, ◌∙◌}
+use Rattle.std.proofs.Common.{◌++◌, ap, ◌∙◌}
 use Rattle.pooma_expr.proofs.Choices.{written, choice_is, choice_views}
 use Rattle.pooma_expr.proofs.emit.+emit.Goals as goal
 

@@ -1,4 +1,4 @@
-use Rattle.std.proofs.Common.{◌≡◌, ℕ, ◌-◌, ◌≤◌, [], length, drop}
+use Rattle.std.proofs.Common.{ℕ, ◌-◌, ◌≤◌, [], length, drop}
 use Rattle.pooma_expr.specs.Machine.{outcome}
 use Rattle.pooma_expr.proofs.Runs.{IsAt}
 use Rattle.pooma_expr.proofs.eval.run.Given as goal

@@ -1,4 +1,4 @@
-use Rattle.std.proofs.Common.{ℤ, List, FitsSigned, sym, ap, subst, ◌∙◌, rules}
+use Rattle.std.proofs.Common.{FitsSigned, sym, ap, subst, ◌∙◌, rules}
 use Rattle.std.specs.Int.{w64}
 use Rattle.std.proofs.lemmas.Int.{to_z-of_z}
 use Rattle.pooma_num.specs.Sum.{Sum}
