@@ -8,3 +8,4 @@ pub mod Areas
 pub mod Totals
 pub mod Steps
 pub mod Tests
+pub mod Words

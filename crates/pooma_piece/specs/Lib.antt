@@ -7,3 +7,4 @@ pub mod Fills
 pub mod Effects
 pub mod Meaning
 pub mod Plans
+pub mod Words

@@ -4,10 +4,13 @@ ghost use Rattle.pooma_field.specs.Numbered.{Numbered};
 ghost use Rattle.pooma_expr.specs.Trees.{views_of};
 ghost use Rattle.pooma_view.specs.Views.{Viewed};
 ghost use Rattle.pooma_machine.specs.Steps.{IsRequestList};
+ghost use Rattle.pooma_law.specs.Ser.{ser};
 ghost use Rattle.pooma_machine.specs.Values.{lent_by, written_object};
 ghost use Rattle.pooma_piece.specs.Lent.{IsFitting, Names, fits, lent_for, read_in};
+ghost use Rattle.pooma_piece.specs.Meaning.{pieces};
 ghost use Rattle.pooma_piece.specs.Pieces.{AreReadAlike, Pieced, requests_of};
 ghost use Rattle.pooma_piece.specs.Requests.{requests_for};
+ghost use Rattle.pooma_piece.specs.Words.{AllWords, MakesWords};
 
 use pooma_domain::order_of_cells;
 
@@ -27,6 +30,14 @@ pub fn objects_lend()
 /// When a piece fits, as a law for proofs: each cell that it reads or sets lies in the area of the patch in which it does.
 pub fn pieces_fit()
     ensures { (piece : Pieced) (written : Option (List Interval)) (reads : List (List Interval)) → IsTrue (fits piece written reads) ↔ IsFitting piece written reads }
+{
+    order_of_cells();
+}
+
+/// Numbers of 64 bits, as a law for proofs: pieces that make such numbers, done one after another, leave none but such in the
+/// objects, where there were none but such.
+pub fn pieces_make_words()
+    ensures { (plan : List Pieced) (objects : List Numbered) → All MakesWords plan → AllWords objects → AllWords (ser pieces plan objects).objects }
 {
     order_of_cells();
 }

@@ -15,7 +15,7 @@ mod task;
 mod work;
 
 pub use block::Block;
-pub use laws::{objects_lend, pieces_fit};
+pub use laws::{objects_lend, pieces_fit, pieces_make_words};
 pub use outcome::Outcome;
 pub use piece::{MOST_POSITIONS, Piece};
 pub use run::run_piece;

@@ -1,9 +1,9 @@
 -- Positions without a fault have a number each, so parts have as many numbers as the whole has positions.
-use Rattle.std.proofs.Common.{refl, sym, ap, ◌∙◌, arith}
+use Rattle.std.proofs.Common.{refl, sym, ap, ◌∙◌}
 use Rattle.std.proofs.lemmas.List.{length-append}
 use Rattle.std.proofs.lemmas.List.Elements.{All-head, All-tail}
 use Rattle.std.specs.List.{cons_option}
-use Rattle.std.specs.Prelude.{◌≡◌, ℕ, suc, ◌+◌, ℤ, None, Ok, Err, List, [], ◌∷◌, length, flat_map, All}
+use Rattle.std.specs.Prelude.{◌≡◌, suc, ◌+◌, ℤ, None, Ok, Err, List, [], ◌∷◌, length, flat_map, All}
 use Rattle.pooma_domain.specs.Cells.{Interval, cells_of}
 use Rattle.pooma_expr.specs.Values.{Checked}
 use Rattle.pooma_model.specs.Assigning.{fault_of, found_or, given_by}

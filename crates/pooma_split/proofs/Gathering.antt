@@ -1,16 +1,16 @@
 -- What the pieces of a reduction come to.
 use Rattle.std.proofs.Common.{refl, sym, ap, ◌∙◌, subst, inl, inr, ⊎_elim, arith, get_or, append_assoc}
 use Rattle.std.proofs.lemmas.List.{append-nil}
-use Rattle.std.proofs.lemmas.Option.{get_or_from_slice_get, slice_get-get_or, slice_get_within}
+use Rattle.std.proofs.lemmas.Option.{get_or_from_slice_get, slice_get-get_or}
 use Rattle.std.proofs.lemmas.List.Sorted.{All-permutation}
 use Rattle.std.specs.List.{filter_map}
 use Rattle.std.specs.List.Sorted.{IsPermutation}
 use Rattle.std.specs.Int.{w64}
-use Rattle.std.specs.Prelude.{◌≡◌, ◌⊎◌, ℕ, zero, FitsSigned, ◌<◌, ℤ, Bool, true, false, Option, None, Some, List, [], ◌∷◌, ◌++◌, length, map, fold, slice_get, All, Contains}
+use Rattle.std.specs.Prelude.{◌≡◌, ◌⊎◌, ℕ, FitsSigned, ◌<◌, ℤ, Bool, true, false, None, Some, List, [], ◌∷◌, ◌++◌, length, map, fold, slice_get, All, Contains}
 use Rattle.pooma_domain.specs.Cells.{Interval, cells_of, IsIn}
 use Rattle.pooma_view.specs.Slots.{cell_named}
 use Rattle.pooma_view.specs.Views.{Viewed}
-use Rattle.pooma_field.specs.Numbered.{Numbered, place_in}
+use Rattle.pooma_field.specs.Numbered.{Numbered}
 use Rattle.pooma_field.specs.Shapes.{own_area}
 use Rattle.pooma_field.specs.Worlds.{World}
 use Rattle.pooma_expr.specs.declared.reduction.Reduction.{Reduction}
@@ -18,7 +18,9 @@ use Rattle.pooma_expr.specs.declared.tree.Expr.{Expr}
 use Rattle.pooma_expr.specs.Reductions.{AllFit}
 use Rattle.pooma_expr.specs.Trees.{bound, views_of}
 use Rattle.pooma_expr.specs.Values.{Checked, Contents}
+use Rattle.pooma_expr.specs.Words.{IsWord, literals_fit}
 use Rattle.pooma_expr.proofs.Bound.{value_bound, views_bound}
+use Rattle.pooma_expr.proofs.Words.{AnswersWord, index_word, place_word, value_word}
 use Rattle.pooma_machine.specs.Values.{Lent, lent_by, new_value_of, outcome_of, put_back, written_object}
 use Rattle.pooma_law.specs.Ser.{Results, at_first, with_work}
 use Rattle.pooma_model.specs.declared.statement.Action.TheVariants as action
@@ -40,13 +42,14 @@ use Rattle.pooma_piece.specs.Lent.{is_in, number_in}
 use Rattle.pooma_piece.specs.Meaning.{pieces}
 use Rattle.pooma_piece.specs.Pieces.{Pieced, requests_of}
 use Rattle.pooma_piece.specs.Plans.{or_earlier, plan_fault}
+use Rattle.pooma_piece.specs.Words.{AllWords}
 use Rattle.pooma_piece.proofs.Areas.{passes_in}
 use Rattle.pooma_piece.proofs.Naming.{written_is}
 use Rattle.pooma_piece.proofs.Seen.{is_in_is}
+use Rattle.pooma_piece.proofs.Words.{number_word, object_words}
 use Rattle.pooma_split.specs.Gathered.{HasLaws}
 use Rattle.pooma_split.specs.Splits.{CanSplit, IsPlaced, object_for, piece_of, pieces_of}
 use Rattle.pooma_split.specs.Statements.{GathersTo, Stands, as_fault, done_in_order, fault_among, value_over}
-use Rattle.pooma_split.specs.Words.{AllWords, IsWord, literals_fit}
 use Rattle.pooma_split.proofs.Agreeing.{AgreeOn, same_first, same_numbers}
 use Rattle.pooma_split.proofs.Boxes.{part_within}
 use Rattle.pooma_split.proofs.Counting.{numbers_counted}
@@ -57,7 +60,7 @@ use Rattle.pooma_split.proofs.Owning.{same_object}
 use Rattle.pooma_split.proofs.Piecing.{IsWithin}
 use Rattle.pooma_split.proofs.Placing.{reduce_splits}
 use Rattle.pooma_split.proofs.Seeing.{has, sees}
-use Rattle.pooma_split.proofs.Words.{AnswersWord, index_word, numbers_word, place_word, turns_word, value_word}
+use Rattle.pooma_split.proofs.Words.{numbers_word, turns_word}
 
 in_or_out : (box : List Interval) (c : List ℤ) → IsIn box c ⊎ (¬ (IsIn box c))
 in_or_out box c = by (is_in box c) refl
@@ -199,22 +202,12 @@ module _ (laws : HasLaws) (declared : Declared) (number : ℕ) (scalar : ℕ) (r
 
   -- numbers of objects, as the pieces of a box see them
   module _ (words : AllWords objects) (few : All IsWord world.scalars) (literals : literals_fit whole ≡ true) where
-    content_word : (o : Option Numbered) → ((x : Numbered) → o ≡ Some x → All IsWord x.numbers) → (c : List ℤ) → FitsSigned w64 (number_in o c)
-    content_word None each c = index_word [] (each_of_none) zero
-      where
-        each_of_none : All IsWord []
-        each_of_none j d below = absurd (omega (arith, below))
-    content_word (Some x) each c = index_word x.numbers (each x refl) (place_in x.area c)
-
     module _ (box : List Interval) (here : Member all_boxes box) where
       abbrev had : Contents
       had view c = number_in (slice_get objects (object_for declared box view)) c
 
       had_word : (view : Viewed) (c : List ℤ) → FitsSigned w64 (had view c)
-      had_word view c =
-          content_word (slice_get objects (object_for declared box view))
-          (λ x at. subst (λ (object : Numbered). All IsWord object.numbers) (get_or_from_slice_get objects (object_for declared box view) x x at)
-          (words (object_for declared box view) x (slice_get_within objects (object_for declared box view) x at))) c
+      had_word view c = number_word (slice_get objects (object_for declared box view)) (object_words objects (object_for declared box view) words) c
 
       had_world : (p : List ℤ) → IsIn box p → All (λ view. had view (cell_named view.slots p) ≡ seen_in declared world view (cell_named view.slots p)) (views_of whole)
       had_world p inside j d less =

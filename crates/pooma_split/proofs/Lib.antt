@@ -7,6 +7,7 @@ pub mod Faulting
 pub mod Fitting
 pub mod Gathering
 pub mod Lending
+pub mod Making
 pub mod Owning
 pub mod Piecing
 pub mod Placing

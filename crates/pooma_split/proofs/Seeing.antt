@@ -16,12 +16,12 @@ use Rattle.pooma_expr.specs.Values.{Contents}
 use Rattle.pooma_model.specs.Declarations.{Declared, layout_at, shape_at}
 use Rattle.pooma_model.specs.Midway.{SeesMidway}
 use Rattle.pooma_store.specs.Numbering.{object_at, object_count}
-use Rattle.pooma_store.specs.Standing.{HasNumber, IsField, OwnerHas, StandsFor, owner_object}
+use Rattle.pooma_store.specs.Standing.{HasNumber, IsField, IsFreshFor, OwnerHas, StandsFor, owner_object}
 use Rattle.pooma_store.specs.Stored.{AreArrays, Fits}
 use Rattle.pooma_piece.specs.declared.task.Task.{Task}
 use Rattle.pooma_piece.specs.Lent.{number_in, seen_by}
 use Rattle.pooma_split.specs.Splits.{CanSplit, IsPlaced, object_for}
-use Rattle.pooma_split.specs.Statements.{HasView, IsFreshFor}
+use Rattle.pooma_split.specs.Statements.{HasView}
 use Rattle.pooma_split.proofs.Lending.{lent, lent_of_view, piece}
 use Rattle.pooma_split.proofs.Piecing.{IsWithin}
 
@@ -56,7 +56,7 @@ module _ (declared : Declared) (arrays : AreArrays declared.shapes declared.layo
 
   pub sees : (old new : World) (k : ℕ) (view : Viewed) (p : List ℤ) → slice_get (views_of code) k ≡ Some view → IsPlaced declared positions view
       → owner_object declared.layouts view.array (cell_named view.slots p) ≡ object_for declared box view → IsIn positions p
-      → StandsFor declared.layouts objects new → HasView declared new view → HasView declared old view → IsFreshFor declared objects old view
+      → StandsFor declared.layouts objects new → HasView declared new view → HasView declared old view → IsFreshFor declared.shapes declared.layouts objects old view
       → SeesMidway declared old new has p view
   sees old new k view p at placed same inside stands has_new has_old fresh =
       let there : IsIn (positions_of view.slots) p = subst (λ b. IsIn b p) (sym placed.places) inside in

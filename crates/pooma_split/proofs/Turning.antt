@@ -27,7 +27,7 @@ use Rattle.pooma_model.specs.Partitions.{IsOfOthers, IsPartition, changes_at}
 use Rattle.pooma_model.specs.Parts.{parts_of}
 use Rattle.pooma_model.proofs.Lists.{Member, contains_of, member_at, member_cases}
 use Rattle.pooma_store.specs.Numbering.{AreObjects, EachCell, HasPatch, changed_at, object_at, object_count}
-use Rattle.pooma_store.specs.Standing.{IsFresh, StandsFor}
+use Rattle.pooma_store.specs.Standing.{IsFresh, IsFreshFor, StandsFor}
 use Rattle.pooma_store.specs.Stored.{AreArrays}
 use Rattle.pooma_store.proofs.OwnerNumbers.{objects_counted}
 use Rattle.pooma_piece.specs.declared.outcome.Outcome.{Outcome}
@@ -39,7 +39,7 @@ use Rattle.pooma_piece.specs.Pieces.{Pieced, requests_of}
 use Rattle.pooma_piece.proofs.Naming.{written_is}
 use Rattle.pooma_split.specs.Gathered.{HasLaws}
 use Rattle.pooma_split.specs.Splits.{CanSplit, IsPlaced, object_for, piece_of}
-use Rattle.pooma_split.specs.Statements.{HasView, IsFreshFor}
+use Rattle.pooma_split.specs.Statements.{HasView}
 use Rattle.pooma_split.proofs.Agreeing.{AgreeOn, before_member, change_cells, same_before, same_changes, same_first}
 use Rattle.pooma_split.proofs.Boxes.{part_within}
 use Rattle.pooma_split.proofs.Owning.{has_patch, owns_cell, same_object}
@@ -84,7 +84,7 @@ module _ (laws : HasLaws) (declared : Declared) (arrays : AreArrays declared.sha
   pub record Goes (k : ℕ) (now : World) (done : List (List ℤ)) (objects : List Numbered) : Type 0 where
     pub objects_are : AreObjects declared.layouts objects
     pub stands : StandsFor declared.layouts objects now
-    pub fresh : All (IsFreshFor declared objects world) (views_of whole)
+    pub fresh : All (IsFreshFor declared.shapes declared.layouts objects world) (views_of whole)
     pub midway : IsMidway target done world now
     pub full : IsFull (array_of now target.array)
     pub areas : (array : ℕ) → (array_of now array).area ≡ (array_of world array).area
@@ -201,7 +201,7 @@ module _ (laws : HasLaws) (declared : Declared) (arrays : AreArrays declared.sha
         change_cells given target.slots (done_at box) _
         (λ q m. owns_cell declared (target ∷ views_of code) positions target target_placed (zero, omega arith, refl) box (contains_of boxes box here) q (of_box q m) (within.inside q (of_box q m)))
 
-    still_fresh : (view : Viewed) → IsFreshFor declared objects world view → IsFreshFor declared (changed_at objects (object_for declared box target) changes) world view
+    still_fresh : (view : Viewed) → IsFreshFor declared.shapes declared.layouts objects world view → IsFreshFor declared.shapes declared.layouts (changed_at objects (object_for declared box target) changes) world view
     still_fresh view fresh p inside out c field total external =
         laws.fresh declared.shapes declared.layouts objects world target.array (owner_of (layout_at declared target.array) (cell_named target.slots (map (λ axis. axis.first) box))) changes view.array goes.objects_are patch
         (λ same. change_cells given target.slots (done_at box) _

@@ -22,6 +22,10 @@ use Rattle.pooma_model.specs.Midway.{IsMidway, SeesMidway}
 use Rattle.pooma_model.specs.Partitions.{IsLeastFault, IsOfOthers, IsPartition, changed_in_turn, changes_at, fault_at, numbers_in_turn}
 use Rattle.pooma_model.specs.Parts.{parts_of}
 use Rattle.pooma_model.specs.Reducing.{reduced, scalar_given}
+use Rattle.pooma_law.specs.Ser.{ser}
+use Rattle.pooma_piece.specs.Meaning.{pieces}
+use Rattle.pooma_piece.specs.Pieces.{Pieced}
+use Rattle.pooma_piece.specs.Words.{AllWords, MakesWords}
 use Rattle.pooma_store.specs.Numbering.{AreObjects, EachCell, HasPatch, changed_at, layout_at, object_of}
 use Rattle.pooma_store.specs.Standing.{IsFresh, StandsFor, shape_at as array_shape}
 
@@ -53,3 +57,5 @@ pub record HasLaws : Type 0 where
   pub stands : (layouts : List (List CutAxis)) (objects : List Numbered) (world : World) (array p : ℕ) (changes : List Change) → AreObjects layouts objects → HasPatch layouts array p → IsFull (array_of world array) → EachCell changes (λ cell. Owns (layout_at layouts array) p cell) → StandsFor layouts objects world → StandsFor layouts (changed_at objects (object_of layouts array p) changes) (changed world array changes)
   pub fresh : (shapes : List Shaped) (layouts : List (List CutAxis)) (objects : List Numbered) (world : World) (array p : ℕ) (changes : List Change) (other : ℕ) → AreObjects layouts objects → HasPatch layouts array p → (other ≡ array → EachCell changes (λ cell. Owns (layout_at layouts array) p cell → IsIn (array_shape shapes other).physical cell)) → IsFresh shapes layouts objects world other → IsFresh shapes layouts (changed_at objects (object_of layouts array p) changes) world other
   pub fresh_elsewhere : (shapes : List Shaped) (layouts : List (List CutAxis)) (objects : List Numbered) (world : World) (array : ℕ) (changes : List Change) (other : ℕ) → other ≢ array → IsFresh shapes layouts objects world other → IsFresh shapes layouts objects (changed world array changes) other
+  -- numbers of 64 bits
+  pub words : (plan : List Pieced) (objects : List Numbered) → All MakesWords plan → AllWords objects → AllWords (ser pieces plan objects).objects

@@ -5,7 +5,6 @@ use Rattle.pooma_domain.specs.Cells.{Interval, cells_of, IsIn}
 use Rattle.pooma_view.specs.Slots.{cell_named, positions_of}
 use Rattle.pooma_view.specs.Views.{Viewed}
 use Rattle.pooma_field.specs.Numbered.{Numbered}
-use Rattle.pooma_field.specs.Shapes.{own_area}
 use Rattle.pooma_field.specs.Worlds.{World, HasCell}
 use Rattle.pooma_expr.specs.declared.reduction.Reduction.{Reduction}
 use Rattle.pooma_expr.specs.declared.tree.Expr.{Expr}
@@ -16,7 +15,7 @@ use Rattle.pooma_model.specs.Declarations.{Declared, shape_at, value_in}
 use Rattle.pooma_model.specs.Partitions.{numbers_at, numbers_in_turn}
 use Rattle.pooma_model.specs.Reducing.{scalar_given}
 use Rattle.pooma_store.specs.Numbering.{AreObjects}
-use Rattle.pooma_store.specs.Standing.{IsFresh, StandsFor}
+use Rattle.pooma_store.specs.Standing.{IsFreshFor, IsOwn, StandsFor}
 use Rattle.pooma_store.specs.Stored.{AreArrays}
 use Rattle.pooma_piece.specs.declared.outcome.Outcome.{Outcome}
 use Rattle.pooma_piece.specs.declared.outcome.Outcome.TheVariants.{Value}
@@ -25,21 +24,11 @@ use Rattle.pooma_piece.specs.Meaning.{pieces}
 use Rattle.pooma_piece.specs.Pieces.{Pieced}
 use Rattle.pooma_piece.specs.Plans.{Faulted, plan_fault}
 
--- what a view names at a position is a cell with a number of its own
-abbrev pub IsOwn : Declared → Viewed → List ℤ → Type 0
-IsOwn declared view p = IsIn (own_area (shape_at declared view.array)) (cell_named view.slots p)
-
 -- the world has each cell of the view that has a number of its own, and all physical cells of its array where the view names an
 -- external one
 pub record HasView (declared : Declared) (world : World) (view : Viewed) : Type 0 where
-  pub own : (p : List ℤ) → IsIn (positions_of view.slots) p → IsOwn declared view p → HasCell world view.array (cell_named view.slots p)
-  pub field : (p c : List ℤ) → IsIn (positions_of view.slots) p → ¬ (IsOwn declared view p) → IsIn (shape_at declared view.array).physical c → HasCell world view.array c
-
--- if the view names an external cell of a field, the field is fresh
-abbrev pub IsFreshFor : Declared → List Numbered → World → Viewed → Type 0
-IsFreshFor declared objects world view =
-    (p : List ℤ) → IsIn (positions_of view.slots) p → ¬ (IsOwn declared view p)
-    → IsFresh declared.shapes declared.layouts objects world view.array
+  pub own : (p : List ℤ) → IsIn (positions_of view.slots) p → IsOwn declared.shapes view p → HasCell world view.array (cell_named view.slots p)
+  pub field : (p c : List ℤ) → IsIn (positions_of view.slots) p → ¬ (IsOwn declared.shapes view p) → IsIn (shape_at declared view.array).physical c → HasCell world view.array c
 
 -- the objects stand for the world, which has what these views name, and fields are fresh where they name external cells
 pub record Stands (declared : Declared) (objects : List Numbered) (world : World) (views : List Viewed) : Type 0 where
@@ -47,7 +36,7 @@ pub record Stands (declared : Declared) (objects : List Numbered) (world : World
   pub objects_are : AreObjects declared.layouts objects
   pub stands : StandsFor declared.layouts objects world
   pub has : All (HasView declared world) views
-  pub fresh : All (IsFreshFor declared objects world) views
+  pub fresh : All (IsFreshFor declared.shapes declared.layouts objects world) views
 
 -- what is left and what was answered once the pieces were done, one after another
 abbrev pub done_in_order : List Pieced → List Numbered → Results Numbered Outcome

@@ -1,27 +1,14 @@
--- Numbers of 64 bits, in expressions and in objects.
-use Rattle.std.specs.Prelude.{Bool, true, ◌&&◌, ℤ, FitsSigned, List, All}
-use Rattle.std.specs.Int.{w64}
-use Rattle.pooma_field.specs.Numbered.{Numbered}
-use Rattle.pooma_expr.specs.declared.tree.Expr.{Expr}
-use Rattle.pooma_expr.specs.declared.tree.Expr.TheOpen.{Expr-F}
-use Rattle.pooma_expr.specs.declared.tree.Expr.TheFolds.{fold-Expr}
-use Rattle.pooma_expr.specs.Values.{fits}
+-- Numbers of 64 bits in actions.
+use Rattle.std.specs.Prelude.{Bool, true}
+use Rattle.pooma_expr.specs.Words.{literals_fit}
+use Rattle.pooma_model.specs.declared.statement.Action.{Action}
+use Rattle.pooma_model.specs.declared.statement.Action.TheVariants as action
+use Rattle.pooma_model.specs.Assigning.{whole_value}
 
-abbrev pub IsWord : ℤ → Type 0
-IsWord n = FitsSigned w64 n
-
-abbrev pub literals_by : Expr-F Bool → Bool
-literals_by (Expr-F.Literal x) = fits x
-literals_by (Expr-F.Neg a) = a
-literals_by (Expr-F.Abs a) = a
-literals_by (Expr-F.Bin o a b) = a && b
-literals_by (Expr-F.Where c a b) = c && (a && b)
-literals_by e = true
-
--- whether each literal of the expression is one
-abbrev pub literals_fit : Expr → Bool
-literals_fit = fold-Expr Bool literals_by
-
--- each number of the objects is one
-abbrev pub AllWords : List Numbered → Type 0
-AllWords objects = All (λ object. All IsWord object.numbers) objects
+-- whether each literal of the action is one
+abbrev pub literals_fit_in : Action → Bool
+literals_fit_in (action.Assign target value mask) = literals_fit (whole_value target value mask)
+literals_fit_in (action.Reduce scalar reduction positions value) = literals_fit value
+literals_fit_in (action.PrintView view) = true
+literals_fit_in (action.PrintScalar scalar) = true
+literals_fit_in action.Block = true

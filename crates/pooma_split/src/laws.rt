@@ -6,6 +6,7 @@ ghost use Rattle.pooma_expr.specs.declared.reduction.Reduction.{Reduction};
 ghost use Rattle.pooma_expr.specs.declared.tree.Expr.{Expr};
 ghost use Rattle.pooma_expr.specs.Reductions.{AllFit};
 ghost use Rattle.pooma_expr.specs.Trees.{bound, views_of};
+ghost use Rattle.pooma_expr.specs.Words.{IsWord, literals_fit};
 ghost use Rattle.pooma_domain.specs.Cells.{Interval, cells_of};
 ghost use Rattle.pooma_machine.specs.Journal.{entry_of};
 ghost use Rattle.pooma_machine.specs.Values.{lent_by};
@@ -20,6 +21,7 @@ ghost use Rattle.pooma_model.specs.Reducing.{reduced};
 ghost use Rattle.pooma_piece.specs.Lent.{fits};
 ghost use Rattle.pooma_piece.specs.Meaning.{pieces};
 ghost use Rattle.pooma_piece.specs.Pieces.{Pieced, requests_of};
+ghost use Rattle.pooma_piece.specs.Words.{AllWords};
 ghost use Rattle.pooma_store.specs.Numbering.{areas_of, object_count};
 ghost use Rattle.pooma_store.specs.Standing.{IsFresh};
 ghost use Rattle.pooma_store.specs.Stored.{AreArrays};
@@ -28,7 +30,7 @@ ghost use Rattle.pooma_view.specs.Views.{Viewed};
 ghost use Rattle.pooma_split.specs.Gathered.{HasLaws};
 ghost use Rattle.pooma_split.specs.Splits.{pieces_of};
 ghost use Rattle.pooma_split.specs.Statements.{ComesTo, GathersTo, Stands, done_in_order, fault_among};
-ghost use Rattle.pooma_split.specs.Words.{AllWords, IsWord, literals_fit};
+ghost use Rattle.pooma_split.specs.Words.{literals_fit_in};
 
 use pooma_domain::order_of_cells;
 use pooma_layout::allocated_cells_of_patches;
@@ -36,7 +38,7 @@ use pooma_model::{
     assignments_in_parts, faults_come_first, masks_choose_values, parts_in_any_order,
     parts_of_statements, positions_change_cells, reads_stand_apart, reductions_in_parts,
 };
-use pooma_piece::pieces_fit;
+use pooma_piece::{pieces_fit, pieces_make_words};
 use pooma_store::{numbers_of_owners, objects_change};
 
 /// Statements, as a law for proofs: what the pieces of an action that fits come to, done one after another on objects that
@@ -48,7 +50,7 @@ use pooma_store::{numbers_of_owners, objects_change};
 /// reduction: either pieces answer a fault, and the earliest of theirs is the reduction's, or each answers what the reduction
 /// keeps of the numbers at its positions, one for each, and these numbers, box after box in any order, come to its result or to
 /// its fault at the sum. They are numbers of 64 bits where those of the objects, of the scalars and of its literals are. It
-/// leaves the objects as they are.
+/// leaves the objects as they are. Those numbers of the objects stay of 64 bits behind every action.
 pub fn statements_in_pieces()
     ensures assigns { (declared : Declared) (objects : List Numbered) (world : World) (number : ℕ) (target : Viewed) (value : Expr) (mask : Option Expr)
         → IsFit declared (action.Assign target value mask)
@@ -83,6 +85,9 @@ pub fn statements_in_pieces()
         → Stands declared objects world (views_of value) → AllWords objects → All IsWord world.scalars → IsTrue (literals_fit value)
         → (order : List (List Interval)) → IsPermutation (parts_of declared (views_of (bound world.scalars value)) positions) order
         → AllFit (numbers_in_turn (value_in declared world value) order) }
+    ensures stay_words { (declared : Declared) (scalars : List ℤ) (objects : List Numbered) (number : ℕ) (does : Action)
+        → IsFit declared does → All IsWord scalars → IsTrue (literals_fit_in does) → AllWords objects
+        → AllWords (done_in_order (pieces_of declared scalars number does) objects).objects }
 {
     gathered();
 }
@@ -126,4 +131,5 @@ fn gathered()
     reductions_in_parts();
     numbers_of_owners();
     objects_change();
+    pieces_make_words();
 }

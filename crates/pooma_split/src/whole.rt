@@ -1,6 +1,7 @@
 //! The whole value of an assignment, with its mask.
-ghost use Rattle.std.specs.Prelude.{◌≡◌, ◌≤◌, Some, length, IfOk};
+ghost use Rattle.std.specs.Prelude.{◌≡◌, ◌≤◌, Some, length, IfOk, IsTrue};
 ghost use Rattle.pooma_expr.specs.Trees.{axes_needed, bound, depth_of, scalars_needed, views_of};
+ghost use Rattle.pooma_expr.specs.Words.{literals_fit};
 ghost use Rattle.pooma_model.specs.Assigning.{whole_value};
 
 use pooma_expr::{Code, Expr};
@@ -62,6 +63,7 @@ pub(crate) fn code_of(
     ensures tree { IfOk result (λ code. code ≡ bound scalars.now (whole_value target value.now mask.now)) }
     ensures views { IfOk result (λ code. views_of code ≡ views_of (whole_value target value.now mask.now)) }
     ensures axes { IfOk result (λ code. axes_needed code ≡ axes_needed (whole_value target value.now mask.now)) }
+    ensures literals { IfOk result (λ code. IsTrue (literals_fit (whole_value target value.now mask.now))) }
 {
     match mask {
         None => Code::of(alloc, value, scalars),

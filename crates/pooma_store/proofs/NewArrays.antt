@@ -4,19 +4,18 @@ use Rattle.std.proofs.lemmas.Bool.{cases_lt}
 use Rattle.std.proofs.lemmas.Int.{ints}
 use Rattle.std.proofs.lemmas.List.{length-map, length-replicate, map-append, get_or-replicate, get_or_past, get_or_append_left, get_or-map, take-append-le}
 use Rattle.std.proofs.lemmas.List.Elements.{All-append, All-head, All-tail}
-use Rattle.std.proofs.lemmas.Option.{slice_get_within}
 use Rattle.std.proofs.lemmas.Grind.{flat_map-append}
-use Rattle.std.specs.Prelude.{◌≡◌, ℕ, zero, suc, ◌<◌, ◌≤◌, ℤ, pos, Option, Some, None, List, [], ◌∷◌, ◌++◌, length, map, replicate, slice_get, slice_index_or, take, All}
+use Rattle.std.specs.Prelude.{◌≡◌, ℕ, zero, suc, ◌<◌, ℤ, pos, Option, Some, None, List, [], ◌∷◌, ◌++◌, length, map, replicate, slice_get, slice_index_or, take, All}
 use Rattle.pooma_domain.specs.Cells.{Interval, cells_of, IsIn}
 use Rattle.pooma_field.specs.declared.faces.Ends.{Ends}
 use Rattle.pooma_field.specs.Numbered.{Numbered, place_in, number_at, IsFull}
 use Rattle.pooma_field.specs.Shapes.{Shaped, own_area}
-use Rattle.pooma_field.specs.Worlds.{World, number_of, opening_world, zeros, array_of, HasCell}
-use Rattle.pooma_layout.specs.Axes.{CutAxis, total_axis, IsCutAxis}
+use Rattle.pooma_field.specs.Worlds.{opening_world, zeros, array_of}
+use Rattle.pooma_layout.specs.Axes.{CutAxis, IsCutAxis}
 use Rattle.pooma_layout.specs.Patches.{allocated_boxes, owner_of, physical_of, total_of}
 use Rattle.pooma_store.specs.Gathered.{HasLaws}
-use Rattle.pooma_store.specs.Numbering.{layout_at, object_count, object_of, areas_of, object_at, AreObjects, zeros_over, new_patches, new_objects}
-use Rattle.pooma_store.specs.Standing.{HasTotal, owner_object, HasNumber, OwnerHas, StandsFor, shape_at, Allocates, IsGuarded}
+use Rattle.pooma_store.specs.Numbering.{layout_at, object_count, object_of, object_at, AreObjects, zeros_over, new_patches, new_objects}
+use Rattle.pooma_store.specs.Standing.{HasTotal, owner_object, HasNumber, OwnerHas, StandsFor, shape_at, IsGuarded}
 use Rattle.pooma_store.specs.Stored.{AreArrays}
 use Rattle.pooma_store.proofs.OwnerNumbers.{some_from, object_area, owner_has_cell}
 

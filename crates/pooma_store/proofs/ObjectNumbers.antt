@@ -1,11 +1,11 @@
 -- The numbers of objects: by arrays, and in each by patch.
-use Rattle.std.proofs.Common.{refl, sym, ap, ◌∙◌, ⊎_elim, subst, arith, length-append, get_or}
+use Rattle.std.proofs.Common.{refl, sym, ap, ◌∙◌, ⊎_elim, arith, length-append, get_or}
 use Rattle.std.proofs.lemmas.Bool.{cases_lt}
-use Rattle.std.proofs.lemmas.List.{length-map, length-take, take-take, get_or_append_left}
+use Rattle.std.proofs.lemmas.List.{length-map, take-take}
 use Rattle.std.proofs.lemmas.List.Concat.{get_or-flat_map}
-use Rattle.std.proofs.lemmas.List.Sums.{sum_by-cons, sum_by_push, sum_by_more, sum_by_more_le, sum_by-take-le}
+use Rattle.std.proofs.lemmas.List.Sums.{sum_by-cons, sum_by_more, sum_by_more_le, sum_by-take-le}
 use Rattle.std.proofs.lemmas.Option.{slice_get-get_or, slice_get_within, get_or_from_slice_get}
-use Rattle.std.specs.Prelude.{◌≡◌, ℕ, zero, suc, ◌+◌, ◌-◌, ◌*◌, ◌<◌, ◌≤◌, Some, List, [], ◌∷◌, ◌++◌, length, map, flat_map, slice_get, slice_index_or, take}
+use Rattle.std.specs.Prelude.{◌≡◌, ℕ, zero, suc, ◌+◌, ◌-◌, ◌<◌, ◌≤◌, Some, List, [], ◌∷◌, length, slice_get, take}
 use Rattle.pooma_domain.specs.Cells.{Interval}
 use Rattle.pooma_layout.specs.Axes.{CutAxis}
 use Rattle.pooma_layout.specs.Patches.{owned_boxes, allocated_of, allocated_boxes}

@@ -1,15 +1,15 @@
 -- The number that a cell has in the patch that owns it, and what it is after one object was changed.
 use Rattle.std.proofs.Common.{refl, sym, ap, ◌∙◌, ⊎_elim, inl, inr, subst, arith, length-set}
-use Rattle.std.proofs.lemmas.Bool.{cases_eq, cases_lt, false≢true}
-use Rattle.std.proofs.lemmas.List.{length-map, map-set, set_past, set-get_or, get_or-map, get_or-set_same, get_or-set_other, get_or_default}
+use Rattle.std.proofs.lemmas.Bool.{cases_lt, false≢true}
+use Rattle.std.proofs.lemmas.List.{length-map, map-set, set_past, set-get_or, get_or-map, get_or-set_same, get_or-set_other}
 use Rattle.std.proofs.lemmas.List.Elements.{All-set}
-use Rattle.std.proofs.lemmas.Option.{slice_get-map, slice_get-get_or, slice_get_within, get_or_from_slice_get}
+use Rattle.std.proofs.lemmas.Option.{slice_get-map, slice_get_within, get_or_from_slice_get}
 use Rattle.std.specs.Cmp.Rules.{signed_items}
-use Rattle.std.specs.Prelude.{◌≡◌, ◌≢◌, ◌⊎◌, ℕ, zero, suc, ◌<◌, ◌≤◌, ℤ, Bool, true, false, Option, Some, None, option_map, List, [], ◌∷◌, length, map, slice_get, slice_index_or, slice_set, All, IsSomeAnd}
+use Rattle.std.specs.Prelude.{◌≡◌, ◌≢◌, ◌⊎◌, ℕ, ◌<◌, ℤ, Bool, true, false, Option, Some, None, option_map, List, [], ◌∷◌, length, map, slice_get, slice_set, All, IsSomeAnd}
 use Rattle.pooma_domain.specs.Cells.{Interval, IsIn}
 use Rattle.pooma_field.specs.Numbered.{Numbered, Change, is_same_cell, number_at, with_number, with_changes, IsFull}
 use Rattle.pooma_layout.specs.Axes.{CutAxis, IsCutAxis}
-use Rattle.pooma_layout.specs.Patches.{owned_boxes, allocated_of, allocated_boxes, total_of, owner_of, Owns}
+use Rattle.pooma_layout.specs.Patches.{owned_boxes, allocated_of, allocated_boxes, total_of, owner_of}
 use Rattle.pooma_store.specs.Gathered.{HasLaws}
 use Rattle.pooma_store.specs.Numbering.{layout_at, patch_count, object_count, object_of, areas_of, object_at, AreObjects}
 use Rattle.pooma_store.specs.Standing.{HasTotal, owner_object, HasNumber, OwnerHas, Allocates}

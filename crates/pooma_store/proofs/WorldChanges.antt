@@ -1,7 +1,7 @@
 -- What objects stand for after one of them was changed.
-use Rattle.std.proofs.Common.{refl, sym, ap, ◌∙◌, ⊎_elim, subst, arith, length-set}
+use Rattle.std.proofs.Common.{sym, ap, ◌∙◌, ⊎_elim, subst, arith, length-set}
 use Rattle.std.proofs.lemmas.Bool.{cases_eq}
-use Rattle.std.specs.Prelude.{◌≡◌, ◌≢◌, ◌⊎◌, ℕ, ◌<◌, ◌≤◌, ℤ, Some, List, length, slice_get, slice_index_or, slice_set, All}
+use Rattle.std.specs.Prelude.{◌≡◌, ◌≢◌, ℕ, ◌<◌, ℤ, Some, List, length, slice_get, slice_set, All}
 use Rattle.pooma_domain.specs.Cells.{Interval, IsIn}
 use Rattle.pooma_field.specs.Look.{look}
 use Rattle.pooma_field.specs.Numbered.{Numbered, Change, number_at, with_changes, IsFull}
@@ -11,7 +11,7 @@ use Rattle.pooma_layout.specs.Axes.{CutAxis, IsCutAxis}
 use Rattle.pooma_layout.specs.Patches.{owner_of, Owns}
 use Rattle.pooma_store.specs.Gathered.{HasLaws}
 use Rattle.pooma_store.specs.Numbering.{layout_at, patch_count, object_of, object_at, changed_at, AreObjects, EachCell, HasPatch}
-use Rattle.pooma_store.specs.Standing.{HasTotal, owner_object, HasNumber, OwnerHas, StandsFor, shape_at, IsField, IsFresh, Allocates, IsGuarded}
+use Rattle.pooma_store.specs.Standing.{HasTotal, owner_object, HasNumber, OwnerHas, StandsFor, shape_at, IsFresh, IsGuarded}
 use Rattle.pooma_store.proofs.ObjectNumbers.{object_there, objects_apart}
 use Rattle.pooma_store.proofs.OwnerNumbers.{objects_counted, owner_has_cell, full_at, other_object_stays, other_object_was, changed_object_has, other_owner, patch_allocates, same_after}
 

@@ -1,8 +1,10 @@
 -- What the contents of arrays' objects say of a world. They are seen as a list, by the objects' numbers, wherever the objects are.
 use Rattle.std.specs.Prelude.{◌≡◌, ℕ, ◌<◌, ℤ, None, List, [], length, slice_get, slice_index_or, IsSome, IsSomeAnd}
 use Rattle.pooma_domain.specs.Cells.{IsIn}
+use Rattle.pooma_view.specs.Slots.{cell_named, positions_of}
+use Rattle.pooma_view.specs.Views.{Viewed}
 use Rattle.pooma_field.specs.Numbered.{Numbered, number_at}
-use Rattle.pooma_field.specs.Shapes.{Shaped}
+use Rattle.pooma_field.specs.Shapes.{Shaped, own_area}
 use Rattle.pooma_field.specs.Worlds.{World, number_of, look_in, HasCell}
 use Rattle.pooma_layout.specs.Axes.{CutAxis}
 use Rattle.pooma_layout.specs.Patches.{allocated_boxes, owner_of, total_of}
@@ -48,6 +50,15 @@ IsFresh shapes layouts objects world array =
     (c : List ℤ) → IsField world array (shape_at shapes array)
     → IsIn (shape_at shapes array).total c → ¬ (IsIn (shape_at shapes array).physical c)
     → OwnerHas layouts objects array c (look_in world (shape_at shapes array) array c)
+
+-- what a view names at a position is a cell with a number of its own
+abbrev pub IsOwn : List Shaped → Viewed → List ℤ → Type 0
+IsOwn shapes view p = IsIn (own_area (shape_at shapes view.array)) (cell_named view.slots p)
+
+-- if the view names an external cell of a field, the field is fresh
+abbrev pub IsFreshFor : List Shaped → List (List CutAxis) → List Numbered → World → Viewed → Type 0
+IsFreshFor shapes layouts objects world view =
+    (p : List ℤ) → IsIn (positions_of view.slots) p → ¬ (IsOwn shapes view p) → IsFresh shapes layouts objects world view.array
 
 -- there is a patch of this number, and it allocates the cell
 abbrev pub Allocates : List CutAxis → ℕ → List ℤ → Type 0

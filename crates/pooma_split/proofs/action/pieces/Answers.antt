@@ -28,8 +28,8 @@ split-requires-in-Reduce c =
     (splits_for store (length c.args.scalars.now) 0 (task.Reduce c.in-Reduce.reduction) (bound c.args.scalars.now c.in-Reduce.value) c.in-Reduce.positions
     (reduce_splits (declared_in store (length c.args.scalars.now)) c.objects-objects.ensures.valid.arrays c.in-Reduce.reduction c.in-Reduce.scalar c.in-Reduce.positions c.in-Reduce.value c.args.scalars.now fit))
 
-pub returns-in_ok-code-in-Assign : goal.returns-in_ok-code-in-Assign
-returns-in_ok-code-in-Assign c =
+pub returns-in_ok-code-in-Assign-clause-pieces : goal.returns-in_ok-code-in-Assign-clause-pieces
+returns-in_ok-code-in-Assign-clause-pieces c =
     let d = declared_in c.args.store.now 0 in
     let t = task.Assign c.in-Assign.target in
     subst (λ list. IfOk c.split.result (λ made. made.items ≡ list))
@@ -38,8 +38,8 @@ returns-in_ok-code-in-Assign c =
     ∙ ap (pieces_of (declared_in c.args.store.now (length c.args.scalars.now)) c.args.scalars.now c.args.number) (sym c.in-Assign.is))
     c.split.ensures
 
-pub returns-in_ok-code-in-Reduce : goal.returns-in_ok-code-in-Reduce
-returns-in_ok-code-in-Reduce c =
+pub returns-in_ok-code-in-Reduce-clause-pieces : goal.returns-in_ok-code-in-Reduce-clause-pieces
+returns-in_ok-code-in-Reduce-clause-pieces c =
     subst (λ list. IfOk c.split-in-Reduce.result (λ made. made.items ≡ list))
     (ap (λ e. pieces_with (declared_in c.args.store.now 0) c.args.number (task.Reduce c.in-Reduce.reduction) e c.in-Reduce.positions) c.in_ok-code-in-Reduce.ensures.tree
     ∙ ap (pieces_of (declared_in c.args.store.now (length c.args.scalars.now)) c.args.scalars.now c.args.number) (sym c.in-Reduce.is))

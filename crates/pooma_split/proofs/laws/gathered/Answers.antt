@@ -24,4 +24,5 @@ returns c = record {
   stands = c.objects_change.ensures.changed;
   fresh = c.objects_change.ensures.fresh;
   fresh_elsewhere = c.objects_change.ensures.fresh_elsewhere;
+  words = c.pieces_make_words.ensures;
 }

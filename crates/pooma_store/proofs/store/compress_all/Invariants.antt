@@ -1,4 +1,4 @@
-use Rattle.std.proofs.Common.{◌≡◌, ◌<◌, ℕ, take, All}
+use Rattle.std.proofs.Common.{◌≡◌, take, All}
 use Rattle.pooma_field.specs.Numbered.{IsFull}
 use Rattle.pooma_store.specs.Stored.{contents_of}
 use Rattle.pooma_store.proofs.store.compress_all.Given as goal

@@ -1,5 +1,4 @@
 use Rattle.std.proofs.Common.{◌≡◌, take}
-use Rattle.pooma_layout.specs.Patches.{allocated_boxes}
 use Rattle.pooma_store.specs.Numbering.{new_patches}
 use Rattle.pooma_store.specs.Stored.{contents_of}
 use Rattle.pooma_store.proofs.store.new_patches.Given as goal

@@ -1,4 +1,4 @@
-use Rattle.std.proofs.Common.{arith, ap, subst, sym, ◌∙◌, ◌≡◌, ◌<◌, ◌+◌, ℕ, refl}
+use Rattle.std.proofs.Common.{arith, ap, subst, sym, ◌∙◌, ◌<◌, ◌+◌, ℕ, refl}
 use Rattle.std.specs.Prelude.{length}
 use Rattle.pooma_store.specs.Arrayed.{Arrayed}
 use Rattle.pooma_store.proofs.KeptArrays.{few_objects, array_pushed}

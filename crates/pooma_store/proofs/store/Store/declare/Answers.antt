@@ -1,4 +1,4 @@
-use Rattle.std.proofs.Common.{◌≡◌, sym, ap, ◌∙◌, subst, false, true, List, ◌++◌, ◌∷◌, []}
+use Rattle.std.proofs.Common.{◌≡◌, sym, ap, ◌∙◌, subst, false, List, ◌++◌}
 use Rattle.pooma_layout.specs.Axes.{CutAxis}
 use Rattle.pooma_store.specs.Numbering.{AreObjects}
 use Rattle.pooma_store.specs.Stored.{Stored, contents_of}
