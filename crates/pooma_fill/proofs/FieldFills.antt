@@ -2,7 +2,7 @@
 use Rattle.std.proofs.Common.{refl, sym, ap, subst, ⊎_elim, arith}
 use Rattle.std.proofs.lemmas.List.Elements.{All-append, All-cons, All-contains, All-nil}
 use Rattle.std.proofs.lemmas.List.Sums.{fold-append}
-use Rattle.std.specs.Prelude.{◌≡◌, ◌≢◌, ◌⊎◌, ℕ, suc, ◌<◌, ◌≤◌, ℤ, IsSome, List, [], ◌∷◌, fold, flat_map, length, All, AllPairs, Contains}
+use Rattle.std.specs.Prelude.{◌≡◌, ◌≢◌, ℕ, suc, ◌<◌, ◌≤◌, ℤ, IsSome, List, [], ◌∷◌, fold, flat_map, length, All, AllPairs, Contains}
 use Rattle.pooma_domain.specs.Cells.{IsIn}
 use Rattle.pooma_field.specs.declared.shapes.Shape.{Shape}
 use Rattle.pooma_field.specs.declared.shapes.Slab.{Slab}

@@ -9,7 +9,7 @@ use Rattle.std.proofs.lemmas.List.Sums.{fold-append}
 use Rattle.std.proofs.lemmas.Option.{same_Some, slice_get-map, slice_get_within}
 use Rattle.std.specs.List.{list_any}
 use Rattle.std.specs.Option.{option_map_or}
-use Rattle.std.specs.Prelude.{◌≡◌, ◌==◌, ◌&&◌, ◌↔◌, ◌≢◌, ◌⊎◌, not, ℕ, zero, suc, ◌+◌, ◌<◌, ℤ, Bool, true, false, Option, Some, None, IsSome, is_some, List, [], ◌∷◌, length, map, fold, slice_get, All, Contains, if◌then◌else◌}
+use Rattle.std.specs.Prelude.{◌≡◌, ◌==◌, ◌&&◌, ◌↔◌, ◌⊎◌, not, ℕ, zero, suc, ◌+◌, ◌<◌, ℤ, Bool, true, false, Option, Some, None, IsSome, is_some, List, [], ◌∷◌, length, map, fold, slice_get, All, Contains, if◌then◌else◌}
 use Rattle.pooma_domain.specs.Cells.{Interval, cells_of, IsIn}
 use Rattle.pooma_view.specs.Slots.{cell_named, positions_of}
 use Rattle.pooma_view.specs.Views.{Viewed}
@@ -39,7 +39,7 @@ use Rattle.pooma_fill.specs.Marks.{HasArrays, Staled, fills_from, fills_if, firs
 use Rattle.pooma_fill.specs.Reading.{is_external, reads_external, views_read}
 use Rattle.pooma_fill.proofs.Marking.{array_there, faces_needed, shape_there}
 use Rattle.pooma_fill.specs.Gathered.{HasLaws}
-use Rattle.pooma_fill.specs.Freshened.{AreMarked, AreReadFresh, CanFill, filled}
+use Rattle.pooma_fill.specs.Freshened.{AreMarked, CanFill, filled}
 use Rattle.pooma_fill.proofs.SlabFills.{of_mapped}
 use Rattle.pooma_fill.proofs.FieldFills.{field_filled, field_passed}
 
@@ -227,7 +227,9 @@ read_marked laws store stale does objects world after can all view p shape mark 
     is : shape_at store.shapes view.array ≡ shape_of shape
     is = shape_there store.shapes stale.shapes view.array shape can.has.shapes at_s
 
-pub read_fresh : HasLaws → (store : Stored) (stale : Staled) (number : ℕ) (does : Action) (objects : List Numbered) (world : World) → CanFill store stale objects world → AreReadFresh store stale (filled store stale number does objects).objects world does
+pub read_fresh : HasLaws → (store : Stored) (stale : Staled) (number : ℕ) (does : Action) (objects : List Numbered) (world : World) → CanFill store stale objects world
+    → (view : Viewed) (p : List ℤ) → Contains (views_read does) view → view.array < length stale.shapes → IsIn (positions_of view.slots) p → ¬ (IsIn (shape_at store.shapes view.array).physical (cell_named view.slots p))
+    → IsFresh store.shapes store.layouts (filled store stale number does objects).objects world view.array
 read_fresh laws store stale number does objects world can view p listed below inside outside =
     let shape = slice_get_some stale.shapes view.array below in
     let mark = slice_get_some stale.marks view.array (omega (arith, below, can.as_many)) in

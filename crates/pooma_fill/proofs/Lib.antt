@@ -7,9 +7,11 @@ pub mod FillFits
 pub mod FilledCells
 pub mod Freshening
 pub mod Listed
+pub mod Making
 pub mod Marking
 pub mod OneFill
 pub mod Outside
+pub mod ReadFields
 pub mod SlabFills
 pub mod Spans
 pub mod Suiting

@@ -3,7 +3,7 @@ use Rattle.std.proofs.Common.{refl, sym, ap, ◌∙◌, subst, inr, ⊎_elim, ar
 use Rattle.std.proofs.lemmas.Int.{ints}
 use Rattle.std.proofs.lemmas.Option.{get_or_from_slice_get, slice_get-get_or, slice_get-map, slice_get_within}
 use Rattle.std.specs.Option.{option_and_then}
-use Rattle.std.specs.Prelude.{◌≡◌, ◌≢◌, ◌⊎◌, ℕ, ◌<◌, ℤ, Option, Some, option_map, List, [], ◌∷◌, length, map, slice_get, slice_index_or, All, Contains}
+use Rattle.std.specs.Prelude.{◌≡◌, ◌≢◌, ℕ, ◌<◌, ℤ, Option, Some, option_map, List, [], ◌∷◌, length, map, slice_get, slice_index_or, All, Contains}
 use Rattle.pooma_domain.specs.Cells.{cells_of, IsBefore, IsIn}
 use Rattle.pooma_field.specs.declared.shapes.Shape.{Shape}
 use Rattle.pooma_field.specs.declared.shapes.Slab.{Slab}

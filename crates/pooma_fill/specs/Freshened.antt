@@ -1,8 +1,6 @@
 -- What the fills of a statement make of fields, and what marks say of them.
-use Rattle.std.specs.Prelude.{◌≡◌, ℕ, ◌<◌, ℤ, false, Some, List, length, slice_get, Contains}
+use Rattle.std.specs.Prelude.{◌≡◌, ℕ, ℤ, false, Some, List, length, slice_get}
 use Rattle.pooma_domain.specs.Cells.{IsIn}
-use Rattle.pooma_view.specs.Slots.{cell_named, positions_of}
-use Rattle.pooma_view.specs.Views.{Viewed}
 use Rattle.pooma_field.specs.Numbered.{Numbered}
 use Rattle.pooma_field.specs.Shapes.{Shaped, own_area}
 use Rattle.pooma_field.specs.Worlds.{World, HasCell}
@@ -15,7 +13,6 @@ use Rattle.pooma_piece.specs.declared.outcome.Outcome.{Outcome}
 use Rattle.pooma_piece.specs.Meaning.{pieces}
 use Rattle.pooma_fill.specs.declared.stale.Mark.{Mark}
 use Rattle.pooma_fill.specs.Marks.{HasArrays, Staled, fills_before}
-use Rattle.pooma_fill.specs.Reading.{views_read}
 
 -- the world has numbers for no other cells of arrays of these shapes than those that have a number of their own
 abbrev pub HasOwnAlone : List Shaped → World → Type 0
@@ -40,10 +37,3 @@ pub record CanFill (store : Stored) (stale : Staled) (objects : List Numbered) (
 -- what is left and what was answered once the fills that an action needs were done, one after another
 abbrev pub filled : Stored → Staled → ℕ → Action → List Numbered → Results Numbered Outcome
 filled store stale number does objects = ser pieces (fills_before store.layouts stale number does) objects
-
--- each field of which the action reads or prints a cell beside its physical domain is fresh
-abbrev pub AreReadFresh : Stored → Staled → List Numbered → World → Action → Type 0
-AreReadFresh store stale objects world does =
-    (view : Viewed) (p : List ℤ) → Contains (views_read does) view → view.array < length stale.shapes
-    → IsIn (positions_of view.slots) p → ¬ (IsIn (shape_at store.shapes view.array).physical (cell_named view.slots p))
-    → IsFresh store.shapes store.layouts objects world view.array

@@ -7,6 +7,10 @@ use Rattle.pooma_field.specs.Numbered.{Change, Numbered}
 use Rattle.pooma_field.specs.Worlds.{World, HasCell}
 use Rattle.pooma_layout.specs.Axes.{CutAxis, IsCutAxis}
 use Rattle.pooma_layout.specs.Patches.{Owns, owner_of, total_of}
+use Rattle.pooma_law.specs.Ser.{ser}
+use Rattle.pooma_piece.specs.Meaning.{pieces}
+use Rattle.pooma_piece.specs.Pieces.{Pieced}
+use Rattle.pooma_piece.specs.Words.{AllWords, MakesWords}
 use Rattle.pooma_store.specs.Numbering.{AreObjects, EachCell, HasPatch, changed_at, layout_at, object_of}
 use Rattle.pooma_store.specs.Standing.{OwnerHas, StandsFor}
 
@@ -23,3 +27,5 @@ pub record HasLaws : Type 0 where
   pub set : (layouts : List (List CutAxis)) (objects : List Numbered) (array p : ℕ) (changes : List Change) (k : ℕ) (change : Change) → AreObjects layouts objects → HasPatch layouts array p → Owns (layout_at layouts array) p change.cell → slice_get changes k ≡ Some change → ((j : ℕ) (later : Change) → k < j → slice_get changes j ≡ Some later → later.cell ≢ change.cell) → OwnerHas layouts (changed_at objects (object_of layouts array p) changes) array change.cell change.number
   pub kept : (layouts : List (List CutAxis)) (objects : List Numbered) (array p : ℕ) (changes : List Change) (other : ℕ) (c : List ℤ) (n : ℤ) → AreObjects layouts objects → HasPatch layouts array p → (other ≡ array → EachCell changes (λ cell. Owns (layout_at layouts array) p cell → c ≢ cell)) → OwnerHas layouts objects other c n → OwnerHas layouts (changed_at objects (object_of layouts array p) changes) other c n
   pub unseen : (layouts : List (List CutAxis)) (objects : List Numbered) (world : World) (array p : ℕ) (changes : List Change) → AreObjects layouts objects → HasPatch layouts array p → EachCell changes (λ cell. Owns (layout_at layouts array) p cell → ¬ (HasCell world array cell)) → StandsFor layouts objects world → StandsFor layouts (changed_at objects (object_of layouts array p) changes) world
+  -- numbers of 64 bits
+  pub words : (plan : List Pieced) (objects : List Numbered) → All MakesWords plan → AllWords objects → AllWords (ser pieces plan objects).objects

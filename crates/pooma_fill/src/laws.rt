@@ -1,39 +1,54 @@
-ghost use Rattle.std.specs.Prelude.{◌≡◌, ℕ, ◌<◌, false, List, length, map, IsTrue, All, Contains};
+ghost use Rattle.std.specs.Prelude.{◌≡◌, ℕ, ◌<◌, false, List, Option, length, map, IsTrue, All, Contains};
+ghost use Rattle.pooma_expr.specs.declared.tree.Expr.{Expr};
+ghost use Rattle.pooma_expr.specs.Trees.{views_of};
 ghost use Rattle.pooma_field.specs.Numbered.{Numbered};
 ghost use Rattle.pooma_field.specs.Worlds.{World};
 ghost use Rattle.pooma_machine.specs.Values.{lent_by};
 ghost use Rattle.pooma_model.specs.declared.statement.Action.{Action};
+ghost use Rattle.pooma_model.specs.declared.statement.Action.TheVariants as action;
+ghost use Rattle.pooma_model.specs.Assigning.{whole_value};
+ghost use Rattle.pooma_model.specs.Fit.{IsFit};
 ghost use Rattle.pooma_piece.specs.declared.outcome.Outcome.TheVariants.{Done};
 ghost use Rattle.pooma_piece.specs.Lent.{fits};
 ghost use Rattle.pooma_piece.specs.Pieces.{Pieced, requests_of};
+ghost use Rattle.pooma_piece.specs.Words.{AllWords, HaveWords};
 ghost use Rattle.pooma_store.specs.Numbering.{areas_of, object_count, AreObjects};
-ghost use Rattle.pooma_store.specs.Standing.{IsFresh, StandsFor};
+ghost use Rattle.pooma_store.specs.Standing.{IsFresh, IsFreshFor, StandsFor};
 ghost use Rattle.pooma_store.specs.Stored.{AreArrays, Stored};
+ghost use Rattle.pooma_view.specs.Views.{Viewed};
 ghost use Rattle.pooma_fill.specs.declared.stale.Mark.{Mark};
-ghost use Rattle.pooma_fill.specs.Freshened.{AreMarked, AreReadFresh, CanFill, filled};
+ghost use Rattle.pooma_fill.specs.Freshened.{AreMarked, CanFill, filled};
 ghost use Rattle.pooma_fill.specs.Gathered.{HasLaws};
-ghost use Rattle.pooma_fill.specs.Marks.{first_mark, fills_before, is_target, marks_after, HasArrays, Staled};
+ghost use Rattle.pooma_fill.specs.Marks.{declared_of, first_mark, fills_before, is_target, marks_after, HasArrays, Staled};
+ghost use Rattle.pooma_fill.specs.Reading.{views_read};
 
 use pooma_domain::{operations_on_boxes, order_of_cells};
 use pooma_layout::owners_of_cells;
-use pooma_piece::pieces_fit;
+use pooma_piece::{pieces_fit, pieces_make_words};
 use pooma_store::{numbers_of_owners, objects_change};
 
 /// The fills that an action needs, as a law for proofs: done one after another on objects that stand for a world, where each
-/// field that is not fresh is marked, they make each field fresh of which the action reads or prints an external cell. The
-/// objects stand for the same world, what was fresh stays so, and no fill answers a fault.
+/// field that is not fresh is marked, they make each field fresh of which the action reads or prints an external cell, the
+/// target's old value with it where there is a mask. The objects stand for the same world, what was fresh stays so, and no fill
+/// answers a fault. Numbers of 64 bits stay such.
 pub fn fills_make_fresh()
     ensures objects { (store : Stored) (stale : Staled) (number : ℕ) (does : Action) (objects : List Numbered) (world : World)
         → CanFill store stale objects world → AreObjects store.layouts (filled store stale number does objects).objects }
     ensures stands { (store : Stored) (stale : Staled) (number : ℕ) (does : Action) (objects : List Numbered) (world : World)
         → CanFill store stale objects world → StandsFor store.layouts (filled store stale number does objects).objects world }
     ensures fresh { (store : Stored) (stale : Staled) (number : ℕ) (does : Action) (objects : List Numbered) (world : World)
-        → CanFill store stale objects world → AreReadFresh store stale (filled store stale number does objects).objects world does }
+        → CanFill store stale objects world → IsFit (declared_of stale) does
+        → All (IsFreshFor store.shapes store.layouts (filled store stale number does objects).objects world) (views_read does) }
+    ensures whole { (store : Stored) (stale : Staled) (number : ℕ) (target : Viewed) (value : Expr) (mask : Option Expr) (objects : List Numbered) (world : World)
+        → CanFill store stale objects world → IsFit (declared_of stale) (action.Assign target value mask)
+        → All (IsFreshFor store.shapes store.layouts (filled store stale number (action.Assign target value mask) objects).objects world) (views_of (whole_value target value mask)) }
     ensures kept { (store : Stored) (stale : Staled) (number : ℕ) (does : Action) (objects : List Numbered) (world : World) (array : ℕ)
         → CanFill store stale objects world → IsFresh store.shapes store.layouts objects world array
         → IsFresh store.shapes store.layouts (filled store stale number does objects).objects world array }
     ensures done { (store : Stored) (stale : Staled) (number : ℕ) (does : Action) (objects : List Numbered) (world : World)
         → CanFill store stale objects world → All (λ outcome. outcome ≡ Done) (filled store stale number does objects).outcomes }
+    ensures words { (store : Stored) (stale : Staled) (number : ℕ) (does : Action) (objects : List Numbered)
+        → AllWords objects → All HaveWords stale.shapes → AllWords (filled store stale number does objects).objects }
 {
     gathered();
 }
@@ -81,4 +96,5 @@ fn gathered()
     owners_of_cells();
     numbers_of_owners();
     objects_change();
+    pieces_make_words();
 }

@@ -3,6 +3,7 @@
 #![tactic(auto)]
 
 mod boxes;
+mod constants;
 mod fills;
 mod laws;
 mod reading;

@@ -1,11 +1,13 @@
 //! Which fields are stale.
-ghost use Rattle.std.specs.Prelude.{◌≡◌, ◌++◌, ◌<◌, ◌≤◌, Some, map, length, slice_get, IfOk, OnOk};
+ghost use Rattle.std.specs.Prelude.{◌≡◌, ◌++◌, ◌<◌, ◌≤◌, Some, map, length, slice_get, All, IfOk, OnOk};
 ghost use Rattle.pooma_field.specs.ShapeOf.{shape_of};
 ghost use Rattle.pooma_model.specs.Fit.{IsFit};
+ghost use Rattle.pooma_piece.specs.Words.{HaveWords};
 ghost use Rattle.pooma_store.specs.Standing.{shape_at};
 ghost use Rattle.pooma_fill.specs.Kept.{layouts_of, marks_of, shapes_of};
 ghost use Rattle.pooma_fill.specs.Marks.{declared_of, fills_before, fills_if, first_mark, is_needed, mark_after, marks_after, HasArrays};
 
+use crate::constants::constants_fit;
 use crate::fills::add_fills;
 use crate::reading::{is_target, reads_external};
 use pooma_field::Shape;
@@ -51,10 +53,11 @@ impl Model for Stale {
 }
 
 impl Stale {
-    /// At the start of the program: each field is stale.
+    /// At the start of the program: each field is stale. The constants of the fields' updaters are numbers of 64 bits.
     pub fn new(alloc: Global, program: &Program) -> Result<Stale, AllocError>
         ensures declared { IfOk result (λ stale. declared_of stale ≡ program.now.declared) }
         ensures marks { IfOk result (λ stale. stale.marks ≡ map first_mark stale.shapes) }
+        ensures words { IfOk result (λ stale. All HaveWords stale.shapes) }
     {
         let mut arrays = Vec::new(alloc);
         for array in 0..program.arrays() {
@@ -111,8 +114,10 @@ fn new_array(alloc: Global, program: &Program, array: u32) -> Result<Array, Allo
     ensures shape { IfOk result (λ made. slice_get program.now.declared.shapes array ≡ Some (shape_of made.shape)) }
     ensures layout { IfOk result (λ made. slice_get program.now.declared.layouts array ≡ Some made.layout) }
     ensures mark { IfOk result (λ made. made.mark ≡ first_mark made.shape) }
+    ensures words { IfOk result (λ made. HaveWords made.shape) }
 {
     let shape = *program.shape(array);
+    constants_fit(&shape);
     let layout = program.layout(array).copied(alloc)?;
     let mark = Mark {
         external: shape.faces.is_some(),

@@ -11,4 +11,5 @@ returns c = record {
   set = c.numbers_of_owners.ensures.set;
   kept = c.numbers_of_owners.ensures.kept;
   unseen = c.objects_change.ensures.unseen;
+  words = c.pieces_make_words.ensures;
 }
