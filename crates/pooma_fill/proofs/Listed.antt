@@ -19,6 +19,9 @@ use Rattle.pooma_field.specs.Slabs.{axis_at, cell_sources, coordinate_at, source
 use Rattle.pooma_field.specs.Updaters.{IsConstant}
 use Rattle.pooma_layout.specs.Axes.{CutAxis, IsCutAxis}
 use Rattle.pooma_layout.specs.Patches.{Owns, owned_boxes, owner_of, total_of}
+use Rattle.pooma_store.specs.Numbering.{layout_at}
+use Rattle.pooma_store.specs.Standing.{shape_at}
+use Rattle.pooma_store.specs.Stored.{AreArrays}
 use Rattle.pooma_fill.specs.Boxes.{box_of, counting_from, numbers_below}
 use Rattle.pooma_fill.specs.Filling.{cells_filled, is_patch, patches_of, source_from, source_owner}
 use Rattle.pooma_fill.proofs.Spans.{box_is, firsts_in, lasts_in, no_box}
@@ -303,6 +306,12 @@ laid_over layout shape slab cut same total sources = record {
   total = λ c h. subst (λ (box : List Interval). IsIn box c) same (total c h);
   sources = λ c h moving. source_total shape slab c (source_from shape slab c) 0 (total_of layout) (sources c h) (first_there slab.updater (axis_at shape.physical slab.axis) (coordinate_at c slab.axis) (λ y. slice_set c slab.axis y) moving) same;
 }
+
+-- the same of an array of a store
+pub laid_in_store : (shapes : List Shaped) (layouts : List (List CutAxis)) (array : ℕ) (shape : Shaped) (slab : Slab) → AreArrays shapes layouts → array < length layouts → shape_at shapes array ≡ shape
+    → ((c : List ℤ) → IsIn slab.target c → IsIn shape.total c) → ((c : List ℤ) → IsIn slab.target c → All (IsIn shape.total) (cell_sources shape slab c)) → IsLaid (layout_at layouts array) shape slab
+laid_in_store shapes layouts array shape slab arrays there is =
+    laid_over (layout_at layouts array) shape slab (arrays.cut array there).axes (ap (λ (s : Shaped). s.total) (sym is) ∙ (arrays.fitting array there).total)
 
 pub take_more : {X : Type 0} (xs : List X) (k m : ℕ) (x : X) → m ≡ suc k → slice_get xs k ≡ Some x → take m xs ≡ take k xs ++ x ∷ []
 take_more [] k m x next at = cc
