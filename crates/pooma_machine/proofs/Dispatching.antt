@@ -1,8 +1,7 @@
 -- Why the values of a ready entry's objects are there, and that they are those of the history.
-use Rattle.std.proofs.Common.{◌≡◌, ◌≢◌, ◌<◌, ℕ, suc, true, List, [], ◌∷◌, map, length, get_or, Option, Some, None, is_some, IsSome, option_map, option_and_then, slice_get, filter_map, Contains, refl, sym, ◌∙◌, ap, subst, arith, inl, inr, ◌⊎◌, IsTrue, All}
+use Rattle.std.proofs.Common.{◌≡◌, ◌≢◌, ◌<◌, ℕ, suc, true, List, [], ◌∷◌, length, get_or, Option, Some, None, is_some, IsSome, option_and_then, slice_get, filter_map, Contains, refl, sym, ◌∙◌, ap, subst, arith, inl, inr, All}
 use Rattle.std.proofs.lemmas.Bool.Decides.{eqb_tells, leb_tells}
 use Rattle.std.proofs.lemmas.List.{get_or_default, length-map}
-use Rattle.std.proofs.lemmas.Option.{slice_get_within}
 use Rattle.pooma_queue.specs.declared.queue.Mode.{Mode}
 use Rattle.pooma_queue.specs.declared.queue.Mode.TheVariants.{Read, Write}
 use Rattle.pooma_queue.specs.Requests.{conflicts}

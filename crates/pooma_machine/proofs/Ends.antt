@@ -1,5 +1,5 @@
 -- A machine before its first event and after its last.
-use Rattle.std.proofs.Common.{◌≡◌, ◌+◌, ◌*◌, ◌<◌, ◌≤◌, ℕ, max, zero, suc, List, [], ◌∷◌, map, length, Option, Some, None, option_map, option_and_then, slice_get, get_or, IsSome, All, refl, sym, ◌∙◌, ap, arith}
+use Rattle.std.proofs.Common.{◌≡◌, ◌+◌, ◌*◌, ◌<◌, ◌≤◌, ℕ, max, zero, suc, List, [], ◌∷◌, map, length, Option, Some, None, option_map, slice_get, get_or, IsSome, All, refl, sym, ◌∙◌, ap, arith}
 use Rattle.std.proofs.lemmas.List.{length-map}
 use Rattle.std.proofs.lemmas.Option.{slice_get-map, slice_get-get_or}
 use Rattle.pooma_queue.specs.Requests.{Waiting}
@@ -7,7 +7,7 @@ use Rattle.pooma_machine.specs.declared.step.Event.{Event}
 use Rattle.pooma_machine.specs.declared.step.Status.{Status}
 use Rattle.pooma_machine.specs.Values.{Meaning, values, IsComplete}
 use Rattle.pooma_machine.specs.Lines.{room_at}
-use Rattle.pooma_machine.specs.Kept.{IsSound, HasRoom}
+use Rattle.pooma_machine.specs.Kept.{HasRoom}
 use Rattle.pooma_machine.specs.Machine.{Matches}
 use Rattle.pooma_machine.specs.Steps.{status_of}
 use Rattle.pooma_machine.proofs.Keeps.{sound_empty}

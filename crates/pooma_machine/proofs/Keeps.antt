@@ -1,5 +1,5 @@
 -- What each event keeps of a machine's parts, and what the search for a holder says of an entry.
-use Rattle.std.proofs.Common.{◌≡◌, ◌≢◌, ◌+◌, ◌-◌, ◌*◌, ◌<◌, ◌≤◌, ℕ, suc, true, false, Option, None, List, [], ◌∷◌, ◌++◌, map, length, get_or, set, Some, None, IfSome, slice_get, refl, sym, ◌∙◌, ap, subst, arith, inl, inr, ◌⊎◌, IsTrue, Contains, length-append, length-set, All}
+use Rattle.std.proofs.Common.{◌≡◌, ◌≢◌, ◌+◌, ◌-◌, ◌*◌, ◌<◌, ◌≤◌, ℕ, suc, true, false, Option, None, List, [], ◌∷◌, ◌++◌, map, length, get_or, set, Some, None, slice_get, refl, sym, ◌∙◌, ap, subst, arith, inl, inr, ◌⊎◌, IsTrue, Contains, length-append, length-set, All}
 use Rattle.std.proofs.lemmas.Bool.Decides.{eqb_tells, leb_tells}
 use Rattle.std.proofs.lemmas.List.{get_or_append_left, get_or_push, get_or_default, get_or_past, get_or-map, length-map, map-append}
 use Rattle.std.proofs.lemmas.Option.{slice_get_past, slice_get_read, slice_get_within, get_or_from_slice_get}
@@ -15,7 +15,7 @@ use Rattle.pooma_machine.specs.declared.lines.Holder.{Holder}
 use Rattle.pooma_machine.specs.declared.refusal.DispatchError.{DispatchError}
 use Rattle.pooma_machine.specs.declared.refusal.DispatchError.TheVariants.{Already, NotReady, OutOfMemory}
 use Rattle.pooma_machine.specs.Causes.{Explains}
-use Rattle.pooma_machine.specs.Steps.{IsRequestList, AsksFor, requests_of, ConflictOver, status_of, is_released, is_out, IsWaiting, NothingBlocks, IsReady, IsHeldBack, event_of, next, seat_of, IsDispatchedAt}
+use Rattle.pooma_machine.specs.Steps.{IsRequestList, AsksFor, requests_of, ConflictOver, status_of, is_released, is_out, IsWaiting, NothingBlocks, IsReady, IsHeldBack, event_of, next, seat_of}
 use Rattle.pooma_machine.specs.Lines.{line, room_at, asked_at, line_after, held_by}
 use Rattle.pooma_machine.specs.Kept.{IsKept, IsSound, HasRoom, owed}
 use Rattle.std.proofs.lemmas.List.Sums.{sum_by-set, sum_by-append}

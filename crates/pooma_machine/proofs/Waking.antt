@@ -1,5 +1,5 @@
 -- Which entries a release made ready: those that it held back over one of its objects, and that nothing holds back now.
-use Rattle.std.proofs.Common.{◌≡◌, ◌≢◌, ◌↔◌, ◌⊎◌, ◌||◌, ◌+◌, ◌<◌, ℕ, suc, Bool, true, false, IsTrue, List, [], ◌∷◌, ◌++◌, length, take, drop, get_or, slice_get, length-take, Contains, All, Option, Some, None, refl, sym, ◌∙◌, ap, subst, arith, inl, inr, nat_lt, cond}
+use Rattle.std.proofs.Common.{◌≡◌, ◌≢◌, ◌↔◌, ◌⊎◌, ◌||◌, ◌+◌, ◌<◌, ℕ, suc, Bool, true, false, IsTrue, List, [], ◌∷◌, ◌++◌, length, take, get_or, slice_get, length-take, Contains, All, Option, Some, None, refl, sym, ◌∙◌, ap, subst, arith, inl, inr, nat_lt}
 use Rattle.std.proofs.lemmas.Bool.Decides.{eqb_tells, leb_tells}
 use Rattle.std.proofs.lemmas.List.{get_or_past, get_or_default, get_or-take}
 use Rattle.std.proofs.lemmas.Option.{slice_get-get_or, get_or_from_slice_get}
@@ -18,10 +18,10 @@ use Rattle.pooma_machine.specs.declared.step.Status.{Status}
 use Rattle.pooma_machine.specs.Lines.{line, IsTied}
 use Rattle.pooma_machine.specs.Kept.{IsKept}
 use Rattle.pooma_machine.proofs.Keeps.{in_range}
-use Rattle.pooma_machine.proofs.Listed.{contains_cases, contains_first, contains_rest, contains_none, is_there, taken_in, dropped_in, taken_more, there_at, find_nothing}
+use Rattle.pooma_machine.proofs.Listed.{contains_none, is_there, taken_in, dropped_in, taken_more, there_at, find_nothing}
 use Rattle.pooma_machine.proofs.Plans.{status_own, status_other, asks_in_plan}
 use Rattle.pooma_machine.proofs.Ties.{request_of}
-use Rattle.pooma_machine.proofs.Holders.{order_rest, order_first, holding_says}
+use Rattle.pooma_machine.proofs.Holders.{holding_says}
 use Rattle.pooma_machine.proofs.Dispatching.{out_not_released}
 use Rattle.pooma_machine.proofs.Named.{with_has, has_with, with_ascending, names_with}
 

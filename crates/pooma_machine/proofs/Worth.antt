@@ -1,16 +1,15 @@
 -- What each event does to the values that a history gives, and how a machine's values follow it.
-use Rattle.std.proofs.Common.{◌≡◌, ◌≢◌, ◌<◌, ℕ, zero, suc, Bool, true, false, List, [], ◌∷◌, ◌++◌, map, length, set, Option, Some, None, is_some, option_map, option_and_then, slice_get, fold, refl, sym, ◌∙◌, ap, subst, arith, inl, inr, ◌⊎◌, IsTrue, length-append, length-set, All}
+use Rattle.std.proofs.Common.{◌≡◌, ◌≢◌, ◌<◌, ℕ, zero, suc, true, false, List, [], ◌∷◌, ◌++◌, map, length, set, Option, Some, None, is_some, option_map, option_and_then, slice_get, fold, refl, sym, ◌∙◌, ap, subst, arith, inl, inr, ◌⊎◌, IsTrue, length-append, length-set, All}
 use Rattle.std.proofs.lemmas.Bool.Decides.{eqb_tells, leb_tells}
 use Rattle.std.proofs.lemmas.List.{map-append, length-map}
 use Rattle.std.proofs.lemmas.List.Sums.{fold-append}
 use Rattle.std.proofs.lemmas.Option.{slice_get-map, slice_get_within, get_or_from_slice_get}
-use Rattle.pooma_machine.specs.declared.step.Request.{Request}
 use Rattle.pooma_machine.specs.declared.step.Event.{Event}
 use Rattle.pooma_machine.specs.declared.step.EventKind.TheVariants as kind
 use Rattle.pooma_machine.specs.declared.step.Status.{Status}
 use Rattle.pooma_machine.specs.declared.step.Status.TheVariants as status
 use Rattle.pooma_machine.specs.Steps.{IsRequestList, next, requests_of, status_of, is_out, is_released, event_of, IsWaiting, IsReady, IsLegal}
-use Rattle.pooma_machine.specs.Values.{Meaning, Lent, Values, values, values_after, values_next, opened, lend, give_back, new_value_of, outcome_of, lent_by, written_object, put_back, with_at, asks_of, is_write}
+use Rattle.pooma_machine.specs.Values.{Meaning, Lent, Values, values, values_after, values_next, opened, lend, give_back, new_value_of, outcome_of, lent_by, written_object, put_back, with_at, asks_of}
 use Rattle.pooma_machine.specs.Kept.{IsSound}
 use Rattle.pooma_machine.specs.Machine.{Matches, FitsShapes}
 use Rattle.pooma_machine.proofs.Listed.{same_test, other_test, slice_get_before, slice_get_last, slice_get_written, slice_get_kept}

@@ -1,8 +1,8 @@
 -- What a slot and a list of slots are, restricted to a box of positions.
-use Rattle.std.proofs.Common.{◌≡◌, ◌⊎◌, ℕ, zero, suc, ◌≤◌, ℤ, refl, sym, ap, ap₂, subst, ◌∙◌, arith, inl, inr, List, [], ◌∷◌, take}
+use Rattle.std.proofs.Common.{◌≡◌, ◌⊎◌, ℕ, zero, suc, ◌≤◌, ℤ, refl, sym, ap, subst, ◌∙◌, arith, inl, inr, List, [], ◌∷◌, take}
 use Rattle.pooma_domain.specs.Cells.{Interval, count_of}
 use Rattle.pooma_domain.specs.declared.strides.Strided.{Strided}
-use Rattle.pooma_view.specs.Slots.{left_over, IsWithinPlaces, IsRestricted}
+use Rattle.pooma_view.specs.Slots.{left_over, IsRestricted}
 use Rattle.pooma_view.specs.Restricted.{IsStrided, strided_or_not, where_strided, strided_or, restricted_slot, restricted_slots}
 use Rattle.pooma_view.specs.declared.slots.Slot.{Slot}
 use Rattle.pooma_view.specs.declared.slots.Slot.TheVariants.{Fixed, Along}

@@ -1,8 +1,7 @@
 -- When two slots, and two views, are the same.
 use Rattle.std.proofs.Common.{refl, sym, ap, ap₂, ◌∙◌, subst, arith}
 use Rattle.std.proofs.Props.{props}
-use Rattle.std.specs.Prelude.{◌≡◌, ◌≢◌, ◌↔◌, ℕ, ◌-◌, ◌<◌, List, [], ◌∷◌, take, slice_index_or, Bool, nat_eq, ◌&&◌, IsTrue, ℤ, pos, ◌+ℤ◌, ◌*ℤ◌, FitsSigned}
-use Rattle.std.specs.Int.{w32}
+use Rattle.std.specs.Prelude.{◌≡◌, ◌↔◌, ℕ, List, [], ◌∷◌, take, slice_index_or, Bool, nat_eq, ◌&&◌, IsTrue, ℤ}
 use Rattle.std.specs.Cmp.Lexicographic.{pointwise, pointwise_decides}
 use Rattle.std.specs.Bool.{Decides}
 use Rattle.std.proofs.lemmas.Slice.Eq.{slice_eq-Decides}

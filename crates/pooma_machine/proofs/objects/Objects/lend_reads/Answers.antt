@@ -1,10 +1,10 @@
-use Rattle.std.proofs.Common.{◌<◌, ◌∙◌, ◌++◌, ◌∷◌, [], ap, sym, length, get_or, map}
+use Rattle.std.proofs.Common.{◌∙◌, ◌++◌, ◌∷◌, [], ap, sym, get_or}
 use Rattle.std.proofs.lemmas.List.{map-append}
 use Rattle.std.proofs.Math.Seq.{map-set_same}
 use Rattle.std.specs.Arc.{arc_value}
 use Rattle.pooma_queue.specs.declared.queue.Mode.TheVariants.{Read}
 use Rattle.pooma_machine.specs.declared.step.Request.{Request}
-use Rattle.pooma_machine.specs.Slots.{content_in, home_at, contents}
+use Rattle.pooma_machine.specs.Slots.{content_in, home_at}
 use Rattle.pooma_machine.proofs.Lending.{image_at, image_within, lends_read, lends_nothing}
 use Rattle.pooma_machine.proofs.objects.Objects.lend_reads.Goals.{then-not-is_write+in_ok-share+in_ok-push, else-not-is_write}
 use Rattle.pooma_machine.proofs.objects.Objects.lend_reads.Goals as goal

@@ -1,4 +1,4 @@
-use Rattle.std.proofs.Common.{◌<◌, ◌∙◌, ap, sym, None, map, length, IsSome}
+use Rattle.std.proofs.Common.{◌∙◌, ap, sym, map, IsSome}
 use Rattle.std.proofs.lemmas.List.{map-set}
 use Rattle.std.proofs.Math.Seq.{map-set_same}
 use Rattle.pooma_machine.specs.Slots.{content_in, home_at}

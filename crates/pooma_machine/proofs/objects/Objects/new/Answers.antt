@@ -1,4 +1,4 @@
-use Rattle.std.proofs.Common.{◌∙◌, ap, map, Some, refl}
+use Rattle.std.proofs.Common.{Some, refl}
 use Rattle.std.specs.Arc.{arc_value}
 use Rattle.pooma_machine.specs.Slots.{content_in}
 use Rattle.pooma_machine.proofs.Lending.{map_both}

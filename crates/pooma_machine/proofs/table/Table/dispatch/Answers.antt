@@ -1,4 +1,4 @@
-use Rattle.std.proofs.Common.{◌<◌, ◌∙◌, ap, sym, refl, length, arith, map, [], ◌∷◌, ◌++◌, rules, length-append}
+use Rattle.std.proofs.Common.{◌<◌, ◌∙◌, ap, sym, refl, length, arith, [], ◌∷◌, ◌++◌, rules, length-append}
 use Rattle.std.proofs.lemmas.List.{length-map}
 use Rattle.std.specs.Arc.{arc_value}
 use Rattle.pooma_machine.specs.declared.step.EventKind.TheVariants as kind

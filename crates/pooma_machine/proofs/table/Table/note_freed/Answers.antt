@@ -1,13 +1,11 @@
-use Rattle.std.proofs.Common.{◌∙◌, ap, sym, subst, arith, map, rules, get_or, Contains, false}
+use Rattle.std.proofs.Common.{◌∙◌, sym, subst, arith, map, get_or, Contains, false}
 use Rattle.std.proofs.lemmas.List.{length-map, take_all}
 use Rattle.std.specs.Arc.{arc_value}
 use Rattle.pooma_queue.specs.declared.queue.Asked.{Asked}
 use Rattle.pooma_queue.specs.declared.queue.Mode.TheVariants.{Read}
-use Rattle.pooma_queue.specs.Requests.{Waiting, front_of}
 use Rattle.pooma_machine.specs.Lines.{line}
 use Rattle.pooma_machine.specs.Steps.{is_released, status_of}
 use Rattle.pooma_machine.proofs.Keeps.{asks_of_works}
-use Rattle.pooma_machine.proofs.Queues.{queue_read}
 use Rattle.pooma_machine.proofs.Listed.{there_at}
 use Rattle.pooma_machine.proofs.Waking.{object_there, asked_in_plan, front_in, freed_noted, freed_passed, freed_over, notes_same, FreedAmong}
 use Rattle.pooma_machine.specs.Values.{asks_of}

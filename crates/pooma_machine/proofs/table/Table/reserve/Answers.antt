@@ -1,4 +1,4 @@
-use Rattle.std.proofs.Common.{ap, length, arith}
+use Rattle.std.proofs.Common.{arith}
 use Rattle.std.specs.Arc.{arc_value}
 use Rattle.pooma_machine.proofs.Keeps.{lines_grown, asks_of_works}
 use Rattle.pooma_machine.proofs.Ends.{room_spare}
