@@ -1,13 +1,13 @@
 -- Along which axis of its array a view goes on an axis of positions.
 use Rattle.std.proofs.Common.{refl, sym, ap, ◌∙◌, subst, inl, inr, ⊎_elim, arith, drop, add-one, ◌-◌}
-use Rattle.std.specs.Prelude.{◌≡◌, ◌↔◌, ◌⊎◌, ℕ, zero, suc, ◌+◌, ◌<◌, ◌≤◌, ℤ, true, Option, Some, None, List, [], ◌∷◌, length, slice_get, slice_index_or, Any, Contains}
+use Rattle.std.specs.Prelude.{◌≡◌, ◌↔◌, ◌⊎◌, ℕ, zero, suc, ◌+◌, ◌<◌, ◌≤◌, ℤ, Option, Some, None, List, [], ◌∷◌, length, slice_get, slice_index_or, Any, Contains}
 use Rattle.pooma_domain.specs.Cells.{Interval}
 use Rattle.pooma_domain.specs.declared.strides.Strided.{Strided}
 use Rattle.pooma_view.specs.declared.slots.Slot.{Slot}
 use Rattle.pooma_view.specs.declared.slots.Slot.TheVariants.{Fixed, Along}
 use Rattle.pooma_layout.specs.Axes.{CutAxis, IsAscending}
 use Rattle.pooma_layout.specs.Patches.{borders_of, IsLayout}
-use Rattle.pooma_model.specs.Parts.{parts_along, changes_part}
+use Rattle.pooma_model.specs.Parts.{parts_along}
 use Rattle.pooma_part.specs.Crossing.{ChangesAt, IsCrossing, IsInner, borders_at, part_at}
 use Rattle.pooma_part.proofs.Changing.{crossed}
 

@@ -1,5 +1,5 @@
 -- The cut axes, made one after another.
-use Rattle.std.proofs.Common.{refl, sym, ap, ◌∙◌, subst, arith, get_or, take, drop, append_assoc, add-one, drop-cons}
+use Rattle.std.proofs.Common.{sym, ap, ◌∙◌, arith, take, drop, append_assoc, add-one, drop-cons}
 use Rattle.std.proofs.lemmas.List.{map-append, take_more}
 use Rattle.std.proofs.lemmas.Option.{get_or_from_slice_get, slice_get_within}
 use Rattle.std.specs.Prelude.{◌≡◌, ℕ, suc, ◌+◌, ◌<◌, Some, List, [], ◌∷◌, ◌++◌, length, map, slice_get}

@@ -2,11 +2,11 @@
 use Rattle.std.proofs.Common.{subst, refl, sym, ap, ◌∙◌, arith, to_z, of_z, false}
 use Rattle.std.proofs.lemmas.Int.{ints, by_lt_z, to_z-of_z}
 use Rattle.std.proofs.lemmas.Nat.{div-add-mod'}
-use Rattle.std.proofs.Math.IntN.{pos-*ℤ-pos, pos-*ℤ-negsuc, *ℤ_comm, suc_ℤ-*ℤ, *ℤ-zero, +ℤ_idr, suc_ℤ}
+use Rattle.std.proofs.Math.IntN.{pos-*ℤ-pos, pos-*ℤ-negsuc, *ℤ_comm, suc_ℤ-*ℤ, suc_ℤ}
 use Rattle.std.proofs.Math.Nat.{mod-lt, mul-suc, mul_comm}
 use Rattle.std.specs.Int.{int_div_euclid, w64}
 use Rattle.std.specs.Int.Signed.{lt_z}
-use Rattle.std.specs.Prelude.{◌≡◌, ◌≢◌, ◌⊎◌, ℕ, zero, suc, ◌+◌, ◌-◌, ◌*◌, ◌/◌, ◌%◌, ◌<◌, ◌≤◌, ℤ, pos, negsuc, neg_ℤ, ◌+ℤ◌, ◌-ℤ◌, ◌*ℤ◌, ◌≤ℤ◌, ◌<ℤ◌, FitsSigned}
+use Rattle.std.specs.Prelude.{◌≡◌, ◌≢◌, ℕ, zero, suc, ◌+◌, ◌*◌, ◌/◌, ◌%◌, ◌<◌, ℤ, pos, negsuc, neg_ℤ, ◌+ℤ◌, ◌-ℤ◌, ◌*ℤ◌, ◌≤ℤ◌, ◌<ℤ◌, FitsSigned}
 
 next_is_suc : (k : ℤ) → k +ℤ pos 1 ≡ suc_ℤ k
 next_is_suc (pos n) = omega (arith, ints)

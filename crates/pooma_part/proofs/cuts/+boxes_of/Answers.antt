@@ -1,6 +1,5 @@
-use Rattle.std.proofs.Common.{rules, subst, ◌∙◌, ◌∷◌, ◌≡◌, length, take, drop, ◌-◌}
-use Rattle.std.specs.Prelude.{List}
-use Rattle.pooma_part.specs.CutLines.{CutLine, AreCutLines}
+use Rattle.std.proofs.Common.{rules, subst, ◌∙◌}
+use Rattle.pooma_part.specs.CutLines.{AreCutLines}
 use Rattle.pooma_part.proofs.Dividing.{first_and_later, later_lines, with_each_part}
 use Rattle.pooma_part.proofs.cuts.+boxes_of.Goals as goal
 

@@ -1,4 +1,4 @@
-use Rattle.std.proofs.Common.{arith, rules, sym, ap, subst, ◌≡◌, ◌≤◌, ◌*◌, ◌-◌, length, take, drop}
+use Rattle.std.proofs.Common.{arith, rules, sym, subst, ◌≤◌, ◌*◌, ◌-◌, length, take, drop}
 use Rattle.std.specs.Prelude.{List}
 use Rattle.pooma_domain.specs.Cells.{cells_of}
 use Rattle.pooma_part.specs.CutLines.{CutLine, AreCutLines}

@@ -1,4 +1,4 @@
-use Rattle.std.proofs.Common.{length, ◌-◌}
+use Rattle.std.proofs.Common.{length}
 use Rattle.pooma_part.proofs.cuts.+count_of.Given as goal
 
 abbrev pub decreases-count_of : goal.decreases-count_of

@@ -1,9 +1,9 @@
-use Rattle.std.proofs.Common.{arith, ap, sym, ◌∙◌, subst, ◌≡◌, map, length, take}
+use Rattle.std.proofs.Common.{arith, sym, ◌∙◌, subst, ◌≡◌, take}
 use Rattle.std.proofs.lemmas.List.{take_all}
 use Rattle.std.proofs.lemmas.List.Elements.{All-push}
 use Rattle.std.specs.Prelude.{All}
 use Rattle.pooma_domain.specs.Axes.{interval_of}
-use Rattle.pooma_domain.specs.Cells.{Interval, IsBox}
+use Rattle.pooma_domain.specs.Cells.{IsBox}
 use Rattle.pooma_part.specs.CutLines.{IsCutLine}
 use Rattle.pooma_part.proofs.Dividing.{wholes}
 use Rattle.pooma_part.proofs.Making.{cuts_more, wholes_more}

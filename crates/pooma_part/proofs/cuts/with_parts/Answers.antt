@@ -1,4 +1,4 @@
-use Rattle.std.proofs.Common.{sym, ap, ◌∙◌, subst, ◌∷◌, ◌++◌, map, get_or}
+use Rattle.std.proofs.Common.{sym, ap, ◌∙◌, subst, ◌∷◌, ◌++◌, map}
 use Rattle.std.specs.Prelude.{All, List}
 use Rattle.pooma_domain.specs.Cells.{Interval, IsBox}
 use Rattle.pooma_part.specs.CutLines.{parts_in}

@@ -1,8 +1,6 @@
 use Rattle.std.proofs.Common.{arith, ap, sym, ◌∙◌, subst, ◌≡◌, ◌+◌, ◌-◌, length, drop}
 use Rattle.std.proofs.lemmas.List.{length-map}
 use Rattle.std.specs.Prelude.{Some, slice_get, IfSome}
-use Rattle.pooma_domain.specs.Cells.{Interval}
-use Rattle.pooma_view.specs.declared.slots.Slot.TheVariants.{Fixed, Along}
 use Rattle.pooma_model.specs.Parts.{parts_along}
 use Rattle.pooma_part.specs.Crossing.{borders_at, part_at}
 use Rattle.pooma_part.specs.Cuts.{LaidView}

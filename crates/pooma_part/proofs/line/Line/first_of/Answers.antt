@@ -3,7 +3,7 @@ use Rattle.std.proofs.lemmas.Int.{ints}
 use Rattle.std.proofs.lemmas.List.{length-take-le}
 use Rattle.pooma_layout.proofs.Finding.{last_of_front}
 use Rattle.pooma_part.specs.CutLines.{CutLine}
-use Rattle.pooma_part.proofs.Dividing.{parts_counted, first_begins, later_begins}
+use Rattle.pooma_part.proofs.Dividing.{parts_counted, later_begins}
 use Rattle.pooma_part.proofs.line.Line.first_of.Goals as goal
 
 few : (c : goal.After-deref) → c.args.k ≤ length c.deref.result.now
