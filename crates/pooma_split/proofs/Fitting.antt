@@ -37,7 +37,7 @@ use Rattle.pooma_split.proofs.Piecing.{IsWithin, first_inside, reads_placed}
 use Rattle.pooma_split.proofs.Placing.{assign_splits, reduce_splits}
 
 -- the read views are among those by which the positions are cut
-listed : (t : Task) (views : List Viewed) (k : ℕ) (view : Viewed) → slice_get views k ≡ Some view → Contains (views_with t views) view
+pub listed : (t : Task) (views : List Viewed) (k : ℕ) (view : Viewed) → slice_get views k ≡ Some view → Contains (views_with t views) view
 listed (task.Assign target) views k view at = (suc k, omega (arith, slice_get_within views k view at), get_or_from_slice_get views k view view at)
 listed (task.Reduce reduction) views k view at = (k, slice_get_within views k view at, get_or_from_slice_get views k view view at)
 listed (task.Fill shape slab array) views k view at = (k, slice_get_within views k view at, get_or_from_slice_get views k view view at)

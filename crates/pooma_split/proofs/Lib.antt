@@ -12,6 +12,7 @@ pub mod Owning
 pub mod Piecing
 pub mod Placing
 pub mod Seeing
+pub mod Serving
 pub mod Turning
 pub mod Walking
 pub mod Words

@@ -7,7 +7,7 @@ ghost use Rattle.pooma_expr.specs.declared.tree.Expr.{Expr};
 ghost use Rattle.pooma_expr.specs.Reductions.{AllFit};
 ghost use Rattle.pooma_expr.specs.Trees.{bound, views_of};
 ghost use Rattle.pooma_expr.specs.Words.{IsWord, literals_fit};
-ghost use Rattle.pooma_domain.specs.Cells.{Interval, cells_of};
+ghost use Rattle.pooma_domain.specs.Cells.{Interval, cells_of, IsIn};
 ghost use Rattle.pooma_machine.specs.Journal.{entry_of};
 ghost use Rattle.pooma_machine.specs.Values.{lent_by};
 ghost use Rattle.pooma_model.specs.declared.statement.Action.{Action};
@@ -28,6 +28,7 @@ ghost use Rattle.pooma_store.specs.Stored.{AreArrays};
 ghost use Rattle.pooma_view.specs.Slots.{positions_of};
 ghost use Rattle.pooma_view.specs.Views.{Viewed};
 ghost use Rattle.pooma_split.specs.Gathered.{HasLaws};
+ghost use Rattle.pooma_split.specs.Serving.{IsPositionOf, Serve};
 ghost use Rattle.pooma_split.specs.Splits.{pieces_of};
 ghost use Rattle.pooma_split.specs.Statements.{ComesTo, GathersTo, Stands, done_in_order, fault_among};
 ghost use Rattle.pooma_split.specs.Words.{literals_fit_in};
@@ -113,6 +114,17 @@ pub fn pieces_of_statements()
 {
     gathered();
     pieces_fit();
+}
+
+/// The positions of an action that fits, as a law for proofs: each is served. A piece has the position, and asks to write the
+/// object whose patch owns the target's cell there, where the action has a target, and, to read or to write, for each view of
+/// the value at that position, those of a mask among them, an object whose patch allocates the cell that the view names there.
+pub fn positions_are_served()
+    ensures { (declared : Declared) (scalars : List ℤ) (number : ℕ) (does : Action) (p : List ℤ) → AreArrays declared.shapes declared.layouts
+        → IsFit declared does → IsPositionOf does p
+        → (piece : Pieced) × Contains (pieces_of declared scalars number does) piece × IsIn piece.positions p × Serve declared does p (requests_of piece) }
+{
+    gathered();
 }
 
 // The laws of the crates below on statements in parts and on the objects that they change.

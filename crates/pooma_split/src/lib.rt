@@ -9,4 +9,4 @@ mod splitting;
 mod whole;
 
 pub use action::pieces;
-pub use laws::{pieces_of_statements, statements_in_pieces};
+pub use laws::{pieces_of_statements, positions_are_served, statements_in_pieces};
