@@ -1,0 +1,13 @@
+//! Work loops: who has a pass of a desk does the entries that may be done, until all were released.
+//!
+//! A loop makes no calls but the desk's. It looks, dispatches an entry that may be dispatched, does the work outside the turn
+//! and releases it. It goes on with the least entry that became ready by that release, so that a chain of entries stays with
+//! one worker, and looks again where none did or where another worker had it first. Where a look finds nothing ready, the
+//! loop waits before the next, longer each time, so that it does not keep those that have work from the turn.
+#![tactic(auto)]
+
+pub use gate::{Gate, NoGate};
+pub use worker::{Worked, work_loop};
+
+mod gate;
+mod worker;

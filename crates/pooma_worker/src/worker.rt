@@ -1,0 +1,151 @@
+ghost use Rattle.std.specs.Prelude.{◌≡◌, ◌<◌, ◌≤◌, false, IsTrue, IfSome, IfOk, IfErr, length};
+ghost use Rattle.pooma_machine.specs.Values.{IsComplete, asks_of};
+ghost use Rattle.pooma_machine.specs.Causes.{Explains};
+ghost use Rattle.pooma_desk.specs.Tokens.{IsLegalFor, plan_of, history_of};
+ghost use Rattle.pooma_worker.specs.Working.{Works, CanGoOn};
+
+use crate::gate::Gate;
+use crossbeam_utils::Backoff;
+use pooma_desk::{Desk, Pass};
+use pooma_law::legal_histories_tell;
+use pooma_machine::{DispatchError, Work};
+use std::alloc::Global;
+use std::sync::Wait;
+
+/// How a work loop ended.
+#[derive(Drop)]
+pub struct Worked<W: Work> {
+    /// The pass that the loop went with.
+    pub pass: Pass<W>,
+    /// Whether it ended for want of memory, and not because all entries were released.
+    pub short: bool,
+}
+
+/// Does the entries of the desk's machine with this pass, side by side with whoever else does, until all that were issued are
+/// released, or memory for one of them is wanting.
+///
+/// It calls the gate between each dispatch and its work. It waits for the turn, and for the works of others.
+pub fn work_loop<W: Work, G: Gate, R: Wait>(
+    rt: &R,
+    alloc: Global,
+    desk: &Desk<W>,
+    pass: Pass<W>,
+    gate: &G,
+) -> Worked<W>
+    requires { pass.from ≡ desk.now }
+    ensures works { Works pass result.pass }
+    // The last look found each entry released that was issued by then.
+    ensures ended { result.short ≡ false → IsComplete (plan_of result.pass) (history_of result.pass) }
+    ensures short { IsTrue result.short → CanGoOn W.meaning result.pass }
+    ensures legal { IsLegalFor W.meaning result.pass }
+{
+    legal_histories_tell::<W>();
+    let backoff = Backoff::new();
+    let mut idle = 0;
+    let mut pass = pass;
+    for _ in rt.forever() {
+        let (looked, look) = desk.look(rt, pass, 0);
+        if look.all_released {
+            return Worked {
+                pass: looked,
+                short: false,
+            };
+        }
+        let Some(entry) = look.ready else {
+            idle = pause(&backoff, idle);
+            pass = looked;
+            continue;
+        };
+        let worked = follow(rt, alloc, desk, looked, gate, entry);
+        if worked.short {
+            return worked;
+        }
+        idle = 0;
+        backoff.reset();
+        pass = worked.pass;
+    }
+    unreachable!()
+}
+
+// Where so many looks in a row found nothing, the pause behind them grows no longer.
+const LONGEST: u32 = 6;
+
+// Waits before the next look, where so many in a row found nothing ready, and counts one more.
+fn pause(backoff: &Backoff, idle: u32) -> u32
+    requires { idle ≤ LONGEST }
+    ensures { result ≤ LONGEST }
+{
+    for _ in 0..1u32 << idle {
+        backoff.snooze();
+    }
+    (idle + 1).min(LONGEST)
+}
+
+// Does the entry, then the least that became ready by its release, and so on until none did or another worker had it first.
+fn follow<W: Work, G: Gate, R: Wait>(
+    rt: &R,
+    alloc: Global,
+    desk: &Desk<W>,
+    pass: Pass<W>,
+    gate: &G,
+    entry: u32,
+) -> Worked<W>
+    requires desk { pass.from ≡ desk.now }
+    requires issued { entry < length (plan_of pass) }
+    ensures works { Works pass result.pass }
+    ensures short { IsTrue result.short → CanGoOn W.meaning result.pass }
+    ensures legal { IsLegalFor W.meaning result.pass }
+{
+    let mut pass = pass;
+    let mut entry = entry;
+    for _ in rt.forever() {
+        let (after, answer) = do_entry(rt, alloc, desk, pass, gate, entry);
+        match answer {
+            Ok(next) => {
+                let Some(next) = next else {
+                    return Worked {
+                        pass: after,
+                        short: false,
+                    };
+                };
+                entry = next;
+            }
+            Err(error) => {
+                return Worked {
+                    pass: after,
+                    short: error == DispatchError::OutOfMemory,
+                };
+            }
+        }
+        pass = after;
+    }
+    unreachable!()
+}
+
+// Dispatches the entry, does its work and releases it, and answers the least entry that became ready by that.
+fn do_entry<W: Work, G: Gate, R: Wait>(
+    rt: &R,
+    alloc: Global,
+    desk: &Desk<W>,
+    pass: Pass<W>,
+    gate: &G,
+    entry: u32,
+) -> (Pass<W>, Result<Option<u32>, DispatchError>)
+    requires desk { pass.from ≡ desk.now }
+    requires issued { entry < length (plan_of pass) }
+    ensures works { Works pass result.0 }
+    ensures next { IfOk result.1 (λ next. IfSome next (λ j. j < length (plan_of result.0))) }
+    ensures refused { IfErr result.1 (Explains (asks_of W.meaning (plan_of result.0)) (history_of result.0) entry) }
+    ensures legal { IsLegalFor W.meaning result.0 }
+{
+    legal_histories_tell::<W>();
+    let (pass, answer) = desk.dispatch(rt, alloc, pass, entry);
+    match answer {
+        Ok(loan) => {
+            gate.before(entry);
+            let (pass, became) = desk.release(rt, pass, loan.perform());
+            (pass, Ok(became.entries().first().copied()))
+        }
+        Err(error) => (pass, Err(error)),
+    }
+}
