@@ -7,11 +7,11 @@ use Rattle.pooma_view.specs.Views.{Viewed}
 use Rattle.pooma_parse.specs.declared.form.RawLine.{RawLine}
 use Rattle.pooma_model.specs.declared.statement.Action.{Action}
 use Rattle.pooma_model.specs.Fit.{IsFit}
-use Rattle.pooma_check.specs.After.{with_declaration}
+use Rattle.pooma_script.specs.After.{with_declaration}
+use Rattle.pooma_script.specs.Known.{Known, declared_in}
+use Rattle.pooma_script.specs.Statements.{action_of}
 use Rattle.pooma_check.specs.Kept.{IsKnown}
-use Rattle.pooma_check.specs.Known.{Known, declared_in}
 use Rattle.pooma_check.specs.Sound.{IsLimited, IsSound}
-use Rattle.pooma_check.specs.Statements.{action_of}
 use Rattle.pooma_check.proofs.LineFits.{line_fits}
 
 pub action_fits : (number : ℕ) (known : Known) (text : List ℕ) (form : RawLine) (middle : Known) (does : Option Action) (action : Action) → middle ≡ with_declaration known text form

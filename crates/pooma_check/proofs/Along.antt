@@ -4,9 +4,9 @@ use Rattle.std.proofs.lemmas.List.{get_or-map, length-map, drop_more}
 use Rattle.std.proofs.Math.Seq.{drop-length}
 use Rattle.pooma_text.specs.declared.span.Span.{Span}
 use Rattle.pooma_text.specs.Lines.{LINE_END, lines_of, text_at, with_front_byte}
-use Rattle.pooma_check.specs.declared.cause.Cause.{Cause}
-use Rattle.pooma_check.specs.Known.{Known}
-use Rattle.pooma_check.specs.Scripts.{Becomes, Goes, Read, Refused, Script, Stops, script_at_end}
+use Rattle.pooma_script.specs.declared.cause.Cause.{Cause}
+use Rattle.pooma_script.specs.Known.{Known}
+use Rattle.pooma_script.specs.Scripts.{Becomes, Goes, Read, Refused, Script, Stops, script_at_end}
 
 -- what the lines from this number on make up is what all lines make up
 abbrev pub ReadSoFar : List (List ℕ) → (Script → Type 0) → ℕ → Known → Type 0

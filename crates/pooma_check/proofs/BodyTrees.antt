@@ -8,9 +8,9 @@ use Rattle.pooma_stencil.specs.declared.body.Body.TheOpen.{Body-F}
 use Rattle.pooma_stencil.specs.declared.body.Body.TheViews.{roll-Body}
 use Rattle.pooma_stencil.specs.Bodies.{offsets_of}
 use Rattle.pooma_stencil.specs.Bodies as tree
-use Rattle.pooma_check.specs.Bodies.{body_by, body_of, offsets_by, offsets_in}
-use Rattle.pooma_check.specs.Operators.{op_of}
-use Rattle.pooma_check.proofs.Expressions.{by_form, fold-Abs, fold-Apply, fold-At, fold-Bin, fold-Index, fold-Neg, fold-Number, fold-View, fold-Where}
+use Rattle.pooma_script.specs.Bodies.{body_by, body_of, offsets_by, offsets_in}
+use Rattle.pooma_script.specs.Operators.{op_of}
+use Rattle.pooma_script.proofs.Expressions.{by_form, fold-Abs, fold-Apply, fold-At, fold-Bin, fold-Index, fold-Neg, fold-Number, fold-View, fold-Where}
 
 abbrev HasOffsets : RawExpr → Type 0
 HasOffsets e = offsets_of (body_of e) ≡ offsets_in e

@@ -6,7 +6,7 @@ use Rattle.std.proofs.lemmas.Int.{int_max_is, int_min_is, ints}
 use Rattle.pooma_domain.specs.Cells.{Interval, interval, cells_of}
 use Rattle.pooma_layout.specs.Axes.{allocated_part, cut_axis, parts, total_axis, widened}
 use Rattle.pooma_layout.specs.Patches.{allocated_count, allocated_of, owned_boxes, total_of}
-use Rattle.pooma_check.specs.Layouts.{brick_of}
+use Rattle.pooma_script.specs.Layouts.{brick_of}
 
 same_interval : (a b : Interval) → a.first ≡ b.first → a.last ≡ b.last → a ≡ b
 same_interval a b e f = ap₂ (λ (x y : ℤ). interval x y) e f

@@ -12,16 +12,16 @@ use Rattle.pooma_parse.specs.declared.form.RawLine.{RawLine}
 use Rattle.pooma_parse.specs.declared.form.RawLine.TheVariants as line
 use Rattle.pooma_model.specs.declared.statement.Action.{Action}
 use Rattle.pooma_model.specs.Declarations.{Declared}
-use Rattle.pooma_check.specs.declared.names.Named.{Named}
-use Rattle.pooma_check.specs.declared.names.Named.TheVariants as named
-use Rattle.pooma_check.specs.Known.{Known, declared_in, named_at}
+use Rattle.pooma_script.specs.declared.names.Named.{Named}
+use Rattle.pooma_script.specs.declared.names.Named.TheVariants as named
+use Rattle.pooma_script.specs.Known.{Known, declared_in, named_at}
+use Rattle.pooma_script.specs.Statements.{action_of, joined, print_of}
+use Rattle.pooma_script.specs.Trees.{readings_in, tree_of}
+use Rattle.pooma_script.specs.Views.{Reading, reading_of, view_of}
 use Rattle.pooma_check.specs.Measures.{AreThere, CanBeCut}
 use Rattle.pooma_check.specs.Readings.{views_of_reading}
 use Rattle.pooma_check.specs.Seen.{CanSee, HasFewPositions}
 use Rattle.pooma_check.specs.Sound.{IsSound}
-use Rattle.pooma_check.specs.Statements.{action_of, joined, print_of}
-use Rattle.pooma_check.specs.Trees.{readings_in, tree_of}
-use Rattle.pooma_check.specs.Views.{Reading, reading_of, view_of}
 use Rattle.pooma_check.proofs.TreeViews.{views_of_joined, views_of_tree}
 
 module _ (declared : Declared) where
@@ -52,18 +52,10 @@ module _ (known : Known) (text : List ℕ) where
       subst (AreThere (declared_in known)) (sym (views_of_tree known text e)) (all_there (declared_in known) (readings_in known text e) h)
 
   print_is_cut : (what : Option Named) (view : Viewed) → CanBeCut (declared_in known) (print_of what view)
-  print_is_cut None view = tt
-  print_is_cut (Some (named.Layout n)) view = tt
-  print_is_cut (Some (named.Array n)) view = tt
-  print_is_cut (Some (named.Stencil n)) view = tt
   print_is_cut (Some (named.Scalar n)) view = tt
+  print_is_cut other view = tt
 
   can_be_cut : (form : RawLine) → IsSound known text form → IfSome (action_of known text form) HasFewPositions → IfSome (action_of known text form) (CanBeCut (declared_in known))
-  can_be_cut (line.Layout layout domain cutting internal external) sound few = tt
-  can_be_cut (line.Brick brick domain) sound few = tt
-  can_be_cut (line.Array array on) sound few = tt
-  can_be_cut (line.Field field on faces) sound few = tt
-  can_be_cut (line.Stencil stencil lower upper body) sound few = tt
   can_be_cut (line.Assign target op value) sound few =
       let first = All-head (CanSee (declared_in known)) (reading_of known text None target) (readings_in known text value) sound.seen in
       let later = All-tail (CanSee (declared_in known)) (reading_of known text None target) (readings_in known text value) sound.seen in
@@ -71,11 +63,8 @@ module _ (known : Known) (text : List ℕ) where
       (with_target (declared_in known) op view (tree_of known text value) (there_by (declared_in known) (reading_of known text None target) first 0 view (search rules)) (there_in_tree value later), few.box)
   can_be_cut (line.Scalar scalar value) sound few = there_in_tree value sound.seen
   can_be_cut (line.Reduce scalar word value) sound few = there_in_tree value sound.seen
-  can_be_cut (line.PrintView seen) sound few = tt
   can_be_cut (line.PrintName name) sound few = print_is_cut (named_at known text name) _
-  can_be_cut line.Block sound few = tt
-  can_be_cut (line.Repeat turns) sound few = tt
-  can_be_cut line.End sound few = tt
+  can_be_cut other sound few = tt
 
   for_some : {A : Type 0} (P : A → Type 0) (o : Option A) → IfSome o P → ForSome o P
   for_some P None h = λ x is. cc

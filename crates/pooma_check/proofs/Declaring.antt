@@ -12,8 +12,8 @@ use Rattle.pooma_layout.specs.Patches.{IsLayout, physical_of, total_of}
 use Rattle.pooma_model.specs.Declarations.{Declared, IsArray, IsDeclaring}
 use Rattle.pooma_view.specs.declared.slots.Slot.{Slot}
 use Rattle.pooma_parse.specs.declared.form.RawSub.{RawSub}
+use Rattle.pooma_script.specs.Views.{slot_of}
 use Rattle.pooma_check.specs.Readings.{IsNearby, IsShapeThere}
-use Rattle.pooma_check.specs.Views.{slot_of}
 
 array_at : (shapes : List Shaped) (layouts : List (List CutAxis)) (n : ℕ) (shape : Shaped) (layout : List CutAxis) → AllZip IsArray shapes layouts
     → slice_get shapes n ≡ Some shape → slice_get layouts n ≡ Some layout → IsArray shape layout

@@ -2,13 +2,13 @@
 use Rattle.std.proofs.Common.{◌≡◌, inl, inr, ℕ, List, length, Some, Bool, false, refl, subst}
 use Rattle.std.specs.Prelude.{◌↔◌, IsTrue}
 use Rattle.pooma_parse.specs.declared.form.RawLine.{RawLine}
-use Rattle.pooma_check.specs.declared.cause.Cause.TheVariants as cause
-use Rattle.pooma_check.specs.Causes.{IsFirstFailed}
-use Rattle.pooma_check.specs.Known.{Known}
+use Rattle.pooma_script.specs.declared.cause.Cause.TheVariants as cause
+use Rattle.pooma_script.specs.Causes.{IsFirstFailed}
+use Rattle.pooma_script.specs.Known.{Known}
+use Rattle.pooma_script.specs.Statements.{action_of, task_of}
+use Rattle.pooma_script.specs.Tests.{HasDimensions, HasEqualLengths, HasNumbers, IsPlaced, LiesInside, Passes, ReadsApartOf, has_names}
+use Rattle.pooma_script.proofs.Heads.{not_true}
 use Rattle.pooma_check.specs.Sound.{early_causes}
-use Rattle.pooma_check.specs.Statements.{action_of, task_of}
-use Rattle.pooma_check.specs.Tests.{HasDimensions, HasEqualLengths, HasNumbers, IsPlaced, LiesInside, Passes, ReadsApartOf, has_names}
-use Rattle.pooma_check.proofs.Heads.{not_true}
 
 -- what a test answers false to does not hold
 pub is_not : {P : Type 0} (b : Bool) → b ≡ false → IsTrue b ↔ P → P → ⊥

@@ -11,12 +11,12 @@ use Rattle.pooma_view.specs.declared.slots.Slot.{Slot}
 use Rattle.pooma_view.specs.declared.slots.Slot.TheVariants.{Fixed, Along}
 use Rattle.pooma_model.specs.Declarations.{MOST_CELLS}
 use Rattle.pooma_model.specs.Fit.{AreFew}
-use Rattle.pooma_check.specs.Ends.{IsWithin}
+use Rattle.pooma_script.specs.Ends.{IsWithin}
+use Rattle.pooma_script.proofs.Boxes.{product_le}
+use Rattle.pooma_script.proofs.Lengths.{length_of_some}
+use Rattle.pooma_script.proofs.Ranges.{down_by, up_by}
+use Rattle.pooma_script.proofs.Taken.{ends_inside}
 use Rattle.pooma_check.specs.Readings.{IsNearby}
-use Rattle.pooma_check.proofs.Boxes.{product_le}
-use Rattle.pooma_check.proofs.Lengths.{length_of_some}
-use Rattle.pooma_check.proofs.Ranges.{down_by, up_by}
-use Rattle.pooma_check.proofs.Taken.{ends_inside}
 
 -- so many strides from a number to another one of an axis are no more than the axis is long
 steps_on_axis : (low high first stride : ℤ) (n : ℕ) → stride ≢ pos 0 → low ≤ℤ first → first ≤ℤ high

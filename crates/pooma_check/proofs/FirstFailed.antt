@@ -2,7 +2,7 @@
 use Rattle.std.proofs.Common.{◌≡◌, inl, inr, List, [], ◌∷◌, ◌++◌, Option, Some, None, refl, ap}
 use Rattle.std.specs.Prelude.{map}
 use Rattle.std.specs.Option.{option_map}
-use Rattle.pooma_check.specs.Causes.{IsFirstFailed}
+use Rattle.pooma_script.specs.Causes.{IsFirstFailed}
 
 -- each of them passes its test
 abbrev pub AllPass : {A : Type 0} → (A → Type 0) → List A → Type 0

@@ -21,12 +21,12 @@ use Rattle.pooma_parse.specs.declared.form.RawView.{RawView}
 use Rattle.pooma_model.specs.Declarations.{Declared, with_one_scalar}
 use Rattle.pooma_model.specs.Fit.{AreFew, IsAssignFit, IsPrintFit, IsReduceFit, IsValueOver, IsWritable, MOST_DEPTH, MOST_READS, ReadsApart}
 use Rattle.pooma_model.specs.Parts.{parts_of}
-use Rattle.pooma_check.specs.Known.{Known, declared_in}
+use Rattle.pooma_script.specs.Known.{Known, declared_in}
+use Rattle.pooma_script.specs.Statements.{first_positions, joined}
+use Rattle.pooma_script.specs.Trees.{axes_in, readings_in, tree_of}
+use Rattle.pooma_script.specs.Views.{Reading, positions_read, reading_of, view_of}
 use Rattle.pooma_check.specs.Readings.{views_of_reading}
 use Rattle.pooma_check.specs.Seen.{CanSee, IsSeenAt}
-use Rattle.pooma_check.specs.Statements.{first_positions, joined}
-use Rattle.pooma_check.specs.Trees.{axes_in, readings_in, tree_of}
-use Rattle.pooma_check.specs.Views.{Reading, positions_read, reading_of, view_of}
 use Rattle.pooma_check.proofs.KnownAfter.{AreThere}
 use Rattle.pooma_check.proofs.TreeNeeds.{axes_of_tree, scalars_of_tree}
 use Rattle.pooma_check.proofs.TreeViews.{views_of_tree}

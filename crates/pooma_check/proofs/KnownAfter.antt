@@ -11,14 +11,14 @@ use Rattle.pooma_parse.specs.declared.form.RawLine.{RawLine}
 use Rattle.pooma_parse.specs.declared.form.RawLine.TheVariants as line
 use Rattle.pooma_model.specs.declared.statement.Action.{Action}
 use Rattle.pooma_model.specs.Declarations.{Declared}
-use Rattle.pooma_check.specs.declared.names.Named.{Named}
-use Rattle.pooma_check.specs.declared.names.Named.TheVariants as named
-use Rattle.pooma_check.specs.After.{after, with_action, with_action_of, with_declaration, with_layout, with_new_array, with_scalar, with_stencil}
+use Rattle.pooma_script.specs.declared.names.Named.{Named}
+use Rattle.pooma_script.specs.declared.names.Named.TheVariants as named
+use Rattle.pooma_script.specs.After.{after, with_action, with_action_of, with_declaration, with_layout, with_new_array, with_scalar, with_stencil}
+use Rattle.pooma_script.specs.Known.{Known, Names, declared_in, layout_named, named_at}
+use Rattle.pooma_script.specs.Layouts.{axes_of, brick_of}
+use Rattle.pooma_script.specs.Statements.{action_of}
 use Rattle.pooma_check.specs.Kept.{IsKnown, IsThere}
-use Rattle.pooma_check.specs.Known.{Known, Names, declared_in, layout_named, named_at}
-use Rattle.pooma_check.specs.Layouts.{axes_of, brick_of}
 use Rattle.pooma_check.specs.Sound.{IsLimited}
-use Rattle.pooma_check.specs.Statements.{action_of}
 use Rattle.pooma_check.proofs.Counting.{declared_end, declared_with, executed_end, executed_of, executed_repeat, executed_with}
 
 -- what is named is there
@@ -110,14 +110,11 @@ module _ (known : Known) (there : AreThere known) where
   there_declared text (line.Array array on) = there_array (text_at text array) _ (layout_named known (named_at known text on))
   there_declared text (line.Field field on faces) = there_array (text_at text field) _ (layout_named known (named_at known text on))
   there_declared text (line.Stencil stencil lower upper body) = there_stencil (text_at text stencil) _
-  there_declared text (line.Assign target op value) = there
   there_declared text (line.Scalar scalar value) = there_scalar (text_at text scalar) (named_at known text scalar)
   there_declared text (line.Reduce scalar word value) = there_scalar (text_at text scalar) (named_at known text scalar)
-  there_declared text (line.PrintView seen) = there
-  there_declared text (line.PrintName name) = there
-  there_declared text line.Block = there
   there_declared text (line.Repeat turns) = there_same (with_declaration known text (line.Repeat turns)) refl refl refl refl
   there_declared text line.End = there_same (with_declaration known text line.End) refl refl refl (declared_end known.drafted)
+  there_declared text other = there
 
 there_action : (number : ℕ) (does : Option Action) (known : Known) → AreThere known → AreThere (with_action_of number does known)
 there_action number None known there = there
@@ -134,19 +131,11 @@ counted_scalar name (Some what) known h = h
 counted_scalar name None known h = h
 
 counted_declared : (known : Known) (text : List ℕ) (form : RawLine) → AreCounted known → AreCounted (with_declaration known text form)
-counted_declared known text (line.Layout layout domain cutting internal external) h = h
-counted_declared known text (line.Brick brick domain) h = h
-counted_declared known text (line.Array array on) h = h
-counted_declared known text (line.Field field on faces) h = h
-counted_declared known text (line.Stencil stencil lower upper body) h = h
-counted_declared known text (line.Assign target op value) h = h
 counted_declared known text (line.Scalar scalar value) h = counted_scalar (text_at text scalar) (named_at known text scalar) known h
 counted_declared known text (line.Reduce scalar word value) h = counted_scalar (text_at text scalar) (named_at known text scalar) known h
-counted_declared known text (line.PrintView seen) h = h
-counted_declared known text (line.PrintName name) h = h
-counted_declared known text line.Block h = h
 counted_declared known text (line.Repeat turns) h = h ∙ sym (executed_repeat _ known.drafted)
 counted_declared known text line.End h = h ∙ sym (executed_end known.drafted)
+counted_declared known text other h = h
 
 counted_action : (number : ℕ) (does : Option Action) (known : Known) → AreCounted known → AreCounted (with_action_of number does known)
 counted_action number None known h = h
@@ -169,19 +158,10 @@ scalars_scalar name (Some what) known = omega arith
 scalars_scalar name None known = omega arith
 
 scalars_declared : (known : Known) (text : List ℕ) (form : RawLine) → (declared_in (with_declaration known text form)).scalars ≤ (declared_in known).scalars + 1
-scalars_declared known text (line.Layout layout domain cutting internal external) = omega arith
-scalars_declared known text (line.Brick brick domain) = omega arith
-scalars_declared known text (line.Array array on) = omega arith
-scalars_declared known text (line.Field field on faces) = omega arith
-scalars_declared known text (line.Stencil stencil lower upper body) = omega arith
-scalars_declared known text (line.Assign target op value) = omega arith
 scalars_declared known text (line.Scalar scalar value) = scalars_scalar (text_at text scalar) (named_at known text scalar) known
 scalars_declared known text (line.Reduce scalar word value) = scalars_scalar (text_at text scalar) (named_at known text scalar) known
-scalars_declared known text (line.PrintView seen) = omega arith
-scalars_declared known text (line.PrintName name) = omega arith
-scalars_declared known text line.Block = omega arith
-scalars_declared known text (line.Repeat turns) = omega arith
 scalars_declared known text line.End = let same = ap (λ (d : Declared). d.scalars) (declared_end known.drafted) in omega (arith, same)
+scalars_declared known text other = omega arith
 
 scalars_action : (number : ℕ) (does : Option Action) (known : Known) → (declared_in (with_action_of number does known)).scalars ≡ (declared_in known).scalars
 scalars_action number None known = refl

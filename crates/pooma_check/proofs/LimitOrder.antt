@@ -1,8 +1,8 @@
 -- The limits that are looked at before the line's action is made.
 use Rattle.std.proofs.Common.{inl, inr, List, [], ◌∷◌, ◌++◌, Some}
-use Rattle.pooma_check.specs.Causes.{IsFirstFailed}
-use Rattle.pooma_check.specs.declared.cause.LimitName.{LimitName}
-use Rattle.pooma_check.specs.declared.cause.LimitName.TheVariants as limit
+use Rattle.pooma_script.specs.Causes.{IsFirstFailed}
+use Rattle.pooma_script.specs.declared.cause.LimitName.{LimitName}
+use Rattle.pooma_script.specs.declared.cause.LimitName.TheVariants as limit
 
 abbrev pub early_limits : List LimitName
 early_limits =

@@ -18,18 +18,18 @@ use Rattle.pooma_model.specs.declared.statement.Action.{Action}
 use Rattle.pooma_model.specs.declared.statement.Action.TheVariants as action
 use Rattle.pooma_model.specs.Fit.{AreFew, IsFit, IsReduceFit, MOST_DEPTH, MOST_READS}
 use Rattle.pooma_model.specs.Parts.{parts_of}
-use Rattle.pooma_check.specs.declared.names.Named.{Named}
-use Rattle.pooma_check.specs.declared.names.Named.TheVariants as named
-use Rattle.pooma_check.specs.After.{with_declaration, with_scalar}
-use Rattle.pooma_check.specs.Known.{Known, declared_in, is_new, is_scalar, named_at}
-use Rattle.pooma_check.specs.Operators.{reduction_of}
+use Rattle.pooma_script.specs.declared.names.Named.{Named}
+use Rattle.pooma_script.specs.declared.names.Named.TheVariants as named
+use Rattle.pooma_script.specs.After.{with_declaration, with_scalar}
+use Rattle.pooma_script.specs.Known.{Known, declared_in, is_new, is_scalar, named_at}
+use Rattle.pooma_script.specs.Operators.{reduction_of}
+use Rattle.pooma_script.specs.Statements.{action_of, first_positions, joined, print_of, scalar_given}
+use Rattle.pooma_script.specs.Trees.{axes_in, readings_in, tree_of, unless_scalar}
+use Rattle.pooma_script.specs.Views.{positions_read, reading_of, view_of}
+use Rattle.pooma_script.proofs.Heads.{not_true}
 use Rattle.pooma_check.specs.Seen.{CanSee}
 use Rattle.pooma_check.specs.Sound.{IsLimited, IsSound}
-use Rattle.pooma_check.specs.Statements.{action_of, first_positions, joined, print_of, scalar_given}
-use Rattle.pooma_check.specs.Trees.{axes_in, readings_in, tree_of, unless_scalar}
-use Rattle.pooma_check.specs.Views.{positions_read, reading_of, view_of}
 use Rattle.pooma_check.proofs.Fits.{assign_fits, first_few, first_from_zero, no_axes_few, print_fits, reduce_fits, reduce_fits_new}
-use Rattle.pooma_check.proofs.Heads.{not_true}
 use Rattle.pooma_check.proofs.KnownAfter.{AreThere}
 
 first_true : (a b : Bool) → IsTrue (a && b) → IsTrue a
@@ -56,11 +56,8 @@ module _ (known : Known) (text : List ℕ) (there : AreThere known) (no_scalars 
   -- the print of a bare name
   name_fits : (what : Option Named) (seen : RawView) → ((n : ℕ) → what ≡ Some (named.Scalar n) → n < (declared_in known).scalars)
       → All (CanSee (declared_in known)) (unless_scalar what (reading_of known text None seen)) → IsFit (declared_in known) (print_of what (view_of known text seen))
-  name_fits None seen below see = print_fits known text there no_scalars no_axes seen (All-head (CanSee (declared_in known)) (reading_of known text None seen) [] see)
-  name_fits (Some (named.Layout n)) seen below see = print_fits known text there no_scalars no_axes seen (All-head (CanSee (declared_in known)) (reading_of known text None seen) [] see)
-  name_fits (Some (named.Array n)) seen below see = print_fits known text there no_scalars no_axes seen (All-head (CanSee (declared_in known)) (reading_of known text None seen) [] see)
-  name_fits (Some (named.Stencil n)) seen below see = print_fits known text there no_scalars no_axes seen (All-head (CanSee (declared_in known)) (reading_of known text None seen) [] see)
   name_fits (Some (named.Scalar n)) seen below see = below n refl
+  name_fits other seen below see = print_fits known text there no_scalars no_axes seen (All-head (CanSee (declared_in known)) (reading_of known text None seen) [] see)
 
   scalar_below : (span : Span) (n : ℕ) → named_at known text span ≡ Some (named.Scalar n) → n < (declared_in known).scalars
   scalar_below span n is = there (text_at text span) (named.Scalar n) is
@@ -68,11 +65,6 @@ module _ (known : Known) (text : List ℕ) (there : AreThere known) (no_scalars 
   -- what a line does that passes all tests fits
   pub line_fits : (number : ℕ) (form : RawLine) (does : Action) → IsSound known text form → IsLimited number known text form → action_of known text form ≡ Some does
       → IsFit (declared_in (with_declaration known text form)) does
-  line_fits number (line.Layout layout domain cutting internal external) does sound limits is = cc
-  line_fits number (line.Brick brick domain) does sound limits is = cc
-  line_fits number (line.Array array on) does sound limits is = cc
-  line_fits number (line.Field field on faces) does sound limits is = cc
-  line_fits number (line.Stencil stencil lower upper body) does sound limits is = cc
   line_fits number (line.Assign target op value) does sound limits is =
       let same : action.Assign (view_of known text target) (joined op (view_of known text target) (tree_of known text value)) None ≡ does = cc in
       subst (IsFit (declared_in known)) same
@@ -98,5 +90,4 @@ module _ (known : Known) (text : List ℕ) (there : AreThere known) (no_scalars 
       subst (IsFit (declared_in known)) same (name_fits (named_at known text name) seen (scalar_below name) sound.seen)
   line_fits number line.Block does sound limits is =
       let same : action.Block ≡ does = cc in subst (IsFit (declared_in known)) same tt
-  line_fits number (line.Repeat turns) does sound limits is = cc
-  line_fits number line.End does sound limits is = cc
+  line_fits number other does sound limits is = cc

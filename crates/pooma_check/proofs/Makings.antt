@@ -9,14 +9,14 @@ use Rattle.pooma_parse.specs.declared.form.RawExpr.{RawExpr}
 use Rattle.pooma_parse.specs.declared.form.RawLine.{RawLine}
 use Rattle.pooma_parse.specs.declared.form.RawLine.TheVariants as line
 use Rattle.pooma_parse.specs.declared.form.RawView.{RawView}
-use Rattle.pooma_check.specs.declared.names.Named.TheVariants as named
-use Rattle.pooma_check.specs.Known.{Known, declared_in, is_array, is_new, is_scalar, named_at}
+use Rattle.pooma_script.specs.declared.names.Named.TheVariants as named
+use Rattle.pooma_script.specs.Known.{Known, declared_in, is_array, is_new, is_scalar, named_at}
+use Rattle.pooma_script.specs.Statements.{first_positions, task_of}
+use Rattle.pooma_script.specs.Trees.{names_fit, readings_in, unless_scalar}
+use Rattle.pooma_script.specs.Views.{reading_of}
 use Rattle.pooma_check.specs.Readings.{CanView, IsSoundReading}
 use Rattle.pooma_check.specs.Seen.{CanMake, CanSee}
 use Rattle.pooma_check.specs.Sound.{IsSound}
-use Rattle.pooma_check.specs.Statements.{first_positions, task_of}
-use Rattle.pooma_check.specs.Trees.{names_fit, readings_in, unless_scalar}
-use Rattle.pooma_check.specs.Views.{reading_of}
 use Rattle.pooma_check.proofs.Fits.{first_few}
 use Rattle.pooma_check.proofs.Sounding.{can_view, readings_sound}
 use Rattle.pooma_check.proofs.TreeForms.{first_of_and, second_of_and}

@@ -20,15 +20,15 @@ use Rattle.pooma_stencil.proofs.Trees as stencils
 use Rattle.pooma_parse.specs.declared.form.RawAssign.{RawAssign}
 use Rattle.pooma_parse.specs.declared.form.RawAssign.TheVariants as assign
 use Rattle.pooma_parse.specs.declared.form.RawExpr.{RawExpr}
-use Rattle.pooma_check.specs.declared.names.Named.{Named}
-use Rattle.pooma_check.specs.declared.names.Named.TheVariants as named
-use Rattle.pooma_check.specs.Known.{Known, is_scalar, named_at, stencil_named}
+use Rattle.pooma_script.specs.declared.names.Named.{Named}
+use Rattle.pooma_script.specs.declared.names.Named.TheVariants as named
+use Rattle.pooma_script.specs.Known.{Known, is_scalar, named_at, stencil_named}
+use Rattle.pooma_script.specs.Operators.{op_of}
+use Rattle.pooma_script.specs.Statements.{joined}
+use Rattle.pooma_script.specs.Trees.{leaf, tree_by, tree_of}
+use Rattle.pooma_script.specs.Views.{view_of}
+use Rattle.pooma_script.proofs.Expressions.{by_form, fold-Abs, fold-Apply, fold-At, fold-Bin, fold-Index, fold-Neg, fold-Number, fold-View, fold-Where}
 use Rattle.pooma_check.specs.Measures.{reads_by, tree_reads, depth_by, tree_depth, old_reads}
-use Rattle.pooma_check.specs.Operators.{op_of}
-use Rattle.pooma_check.specs.Statements.{joined}
-use Rattle.pooma_check.specs.Trees.{leaf, tree_by, tree_of}
-use Rattle.pooma_check.specs.Views.{view_of}
-use Rattle.pooma_check.proofs.Expressions.{by_form, fold-Abs, fold-Apply, fold-At, fold-Bin, fold-Index, fold-Neg, fold-Number, fold-View, fold-Where}
 
 -- a body is no less deep than a leaf
 pub some_body_depth : (b : Body) → 1 ≤ bodies.body_depth b

@@ -2,16 +2,16 @@
 use Rattle.std.proofs.Common.{◌≡◌, ℕ, List, None, Some}
 use Rattle.std.specs.Prelude.{map}
 use Rattle.pooma_parse.specs.declared.form.RawLine.{RawLine}
-use Rattle.pooma_check.specs.declared.cause.Cause.{Cause}
-use Rattle.pooma_check.specs.declared.cause.Cause.TheVariants as cause
-use Rattle.pooma_check.specs.declared.cause.LimitName.{LimitName}
-use Rattle.pooma_check.specs.After.{after}
-use Rattle.pooma_check.specs.Causes.{IsFirstFailed}
-use Rattle.pooma_check.specs.Known.{Known}
-use Rattle.pooma_check.specs.Limits.{line_limits}
-use Rattle.pooma_check.specs.Scripts.{Goes, Stops, form_outcome}
+use Rattle.pooma_script.specs.declared.cause.Cause.{Cause}
+use Rattle.pooma_script.specs.declared.cause.Cause.TheVariants as cause
+use Rattle.pooma_script.specs.declared.cause.LimitName.{LimitName}
+use Rattle.pooma_script.specs.After.{after}
+use Rattle.pooma_script.specs.Causes.{IsFirstFailed}
+use Rattle.pooma_script.specs.Known.{Known}
+use Rattle.pooma_script.specs.Limits.{line_limits}
+use Rattle.pooma_script.specs.Scripts.{Goes, Stops, form_outcome}
+use Rattle.pooma_script.specs.Tests.{IsWithin, Passes}
 use Rattle.pooma_check.specs.Sound.{IsLimited, IsSound, early_causes}
-use Rattle.pooma_check.specs.Tests.{IsWithin, Passes}
 use Rattle.pooma_check.proofs.FirstFailed.{AllPass, behind_passed, failed_in_front, failed_of_each, passed_all}
 
 module _ (number : ℕ) (known : Known) (text : List ℕ) (form : RawLine) where

@@ -11,11 +11,11 @@ use Rattle.pooma_expr.specs.Trees.{views_of}
 use Rattle.pooma_parse.specs.declared.form.RawAssign.{RawAssign}
 use Rattle.pooma_parse.specs.declared.form.RawExpr.{RawExpr}
 use Rattle.pooma_model.specs.Fit.{ReadsApart}
-use Rattle.pooma_check.specs.Known.{Known}
+use Rattle.pooma_script.specs.Known.{Known}
+use Rattle.pooma_script.specs.Statements.{joined}
+use Rattle.pooma_script.specs.Trees.{readings_in, tree_of}
+use Rattle.pooma_script.proofs.Heads.{not_true}
 use Rattle.pooma_check.specs.Readings.{views_of_reading}
-use Rattle.pooma_check.specs.Statements.{joined}
-use Rattle.pooma_check.specs.Trees.{readings_in, tree_of}
-use Rattle.pooma_check.proofs.Heads.{not_true}
 use Rattle.pooma_check.proofs.TreeViews.{views_of_joined, views_of_tree}
 
 -- no cell of the target is read at another position by these views

@@ -1,10 +1,10 @@
 -- What an error says, in other words.
 use Rattle.std.proofs.Common.{ℕ}
 use Rattle.std.specs.Prelude.{Result, Ok, Err, IfErr}
-use Rattle.pooma_check.specs.declared.cause.Cause.{Cause}
-use Rattle.pooma_check.specs.declared.cause.CheckError.{CheckError}
-use Rattle.pooma_check.specs.declared.cause.CheckError.TheVariants as error
-use Rattle.pooma_check.specs.Refusals.{IfRefused}
+use Rattle.pooma_script.specs.declared.cause.Cause.{Cause}
+use Rattle.pooma_script.specs.declared.cause.CheckError.{CheckError}
+use Rattle.pooma_script.specs.declared.cause.CheckError.TheVariants as error
+use Rattle.pooma_script.specs.Refusals.{IfRefused}
 
 pub refused_too : (P Q : ℕ → Cause → Type 0) → ((line : ℕ) (why : Cause) → P line why → Q line why) → (e : CheckError) → IfRefused e P → IfRefused e Q
 refused_too P Q so (error.Refused refusal) h = so refusal.line refusal.cause h

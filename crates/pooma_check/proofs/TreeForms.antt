@@ -10,14 +10,14 @@ use Rattle.pooma_parse.specs.declared.form.RawExpr.{RawExpr}
 use Rattle.pooma_parse.specs.declared.form.RawExpr.TheVariants as raw
 use Rattle.pooma_parse.specs.declared.form.RawOp.{RawOp}
 use Rattle.pooma_parse.specs.declared.form.RawView.{RawView}
-use Rattle.pooma_check.specs.declared.names.Named.TheVariants as named
-use Rattle.pooma_check.specs.Known.{Known, declared_in, is_array, is_stencil, named_at, stencil_named}
+use Rattle.pooma_script.specs.declared.names.Named.TheVariants as named
+use Rattle.pooma_script.specs.Known.{Known, declared_in, is_array, is_stencil, named_at, stencil_named}
+use Rattle.pooma_script.specs.Trees.{axes_by, axes_in, is_readable, names_by, names_fit, readings_by, readings_in, tree_by, tree_of, unless_scalar}
+use Rattle.pooma_script.specs.Views.{Reading, reading_of, view_of}
+use Rattle.pooma_script.proofs.Expressions.{fold-Abs, fold-Apply, fold-Bin, fold-Index, fold-Neg, fold-View, fold-Where}
+use Rattle.pooma_script.proofs.Offsets.{back_of_all, front_of_all}
 use Rattle.pooma_check.specs.Readings.{CanView, IsSoundReading}
 use Rattle.pooma_check.specs.Seen.{CanMake}
-use Rattle.pooma_check.specs.Trees.{axes_by, axes_in, is_readable, names_by, names_fit, readings_by, readings_in, tree_by, tree_of, unless_scalar}
-use Rattle.pooma_check.specs.Views.{Reading, reading_of, view_of}
-use Rattle.pooma_check.proofs.Expressions.{fold-Abs, fold-Apply, fold-Bin, fold-Index, fold-Neg, fold-View, fold-Where}
-use Rattle.pooma_check.proofs.Offsets.{back_of_all, front_of_all}
 use Rattle.pooma_check.proofs.Sounding.{can_view}
 
 pub first_of_and : (a b : Bool) → IsTrue (a && b) → IsTrue a

@@ -11,13 +11,13 @@ use Rattle.pooma_expr.specs.Trees.{axes_at, axes_needed, greatest_by, scalars_at
 use Rattle.pooma_stencil.specs.Expansions.{expansion}
 use Rattle.pooma_stencil.specs.Stencils.{Stenciled}
 use Rattle.pooma_parse.specs.declared.form.RawExpr.{RawExpr}
-use Rattle.pooma_check.specs.declared.names.Named.{Named}
-use Rattle.pooma_check.specs.declared.names.Named.TheVariants as named
-use Rattle.pooma_check.specs.Known.{Known, declared_in, named_at, stencil_named}
-use Rattle.pooma_check.specs.Operators.{op_of}
-use Rattle.pooma_check.specs.Trees.{axes_by, axes_in, leaf, tree_by, tree_of}
-use Rattle.pooma_check.specs.Views.{view_of}
-use Rattle.pooma_check.proofs.Expressions.{by_form, fold-Abs, fold-Apply, fold-At, fold-Bin, fold-Index, fold-Neg, fold-Number, fold-View, fold-Where}
+use Rattle.pooma_script.specs.declared.names.Named.{Named}
+use Rattle.pooma_script.specs.declared.names.Named.TheVariants as named
+use Rattle.pooma_script.specs.Known.{Known, declared_in, named_at, stencil_named}
+use Rattle.pooma_script.specs.Operators.{op_of}
+use Rattle.pooma_script.specs.Trees.{axes_by, axes_in, leaf, tree_by, tree_of}
+use Rattle.pooma_script.specs.Views.{view_of}
+use Rattle.pooma_script.proofs.Expressions.{by_form, fold-Abs, fold-Apply, fold-At, fold-Bin, fold-Index, fold-Neg, fold-Number, fold-View, fold-Where}
 use Rattle.pooma_check.proofs.KnownAfter.{AreThere}
 
 -- a name that is read asks for the scalar that it names

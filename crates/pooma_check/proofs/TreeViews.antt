@@ -18,15 +18,15 @@ use Rattle.pooma_parse.specs.declared.form.RawExpr.{RawExpr}
 use Rattle.pooma_parse.specs.declared.form.RawExpr.TheVariants as raw
 use Rattle.pooma_parse.specs.declared.form.RawOp.{RawOp}
 use Rattle.pooma_parse.specs.declared.form.RawSub.{RawSub}
-use Rattle.pooma_check.specs.declared.names.Named.{Named}
-use Rattle.pooma_check.specs.declared.names.Named.TheVariants as named
-use Rattle.pooma_check.specs.Known.{Known, named_at}
-use Rattle.pooma_check.specs.Operators.{op_of}
+use Rattle.pooma_script.specs.declared.names.Named.{Named}
+use Rattle.pooma_script.specs.declared.names.Named.TheVariants as named
+use Rattle.pooma_script.specs.Known.{Known, named_at}
+use Rattle.pooma_script.specs.Operators.{op_of}
+use Rattle.pooma_script.specs.Statements.{joined}
+use Rattle.pooma_script.specs.Trees.{leaf, readings_by, readings_in, tree_by, tree_of, unless_scalar}
+use Rattle.pooma_script.specs.Views.{Reading, reading_by}
+use Rattle.pooma_script.proofs.Expressions.{by_form, fold-Abs, fold-Apply, fold-At, fold-Bin, fold-Index, fold-Neg, fold-Number, fold-View, fold-Where}
 use Rattle.pooma_check.specs.Readings.{views_of_reading}
-use Rattle.pooma_check.specs.Statements.{joined}
-use Rattle.pooma_check.specs.Trees.{leaf, readings_by, readings_in, tree_by, tree_of, unless_scalar}
-use Rattle.pooma_check.specs.Views.{Reading, reading_by}
-use Rattle.pooma_check.proofs.Expressions.{by_form, fold-Abs, fold-Apply, fold-At, fold-Bin, fold-Index, fold-Neg, fold-Number, fold-View, fold-Where}
 
 -- a name without brackets or with them is a read of its view, or a scalar
 leaf_views : (what : Option Named) (array : ℕ) (subs : List RawSub)

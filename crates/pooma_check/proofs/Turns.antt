@@ -2,7 +2,7 @@
 use Rattle.std.proofs.Common.{◌≡◌, ℕ, suc, ◌-◌, min, List, [], ◌∷◌, ◌++◌, length, None, Some, refl, ap, ◌∙◌, arith}
 use Rattle.std.specs.Prelude.{slice_get}
 use Rattle.pooma_model.specs.Order.{Frame}
-use Rattle.pooma_check.specs.declared.count.TheConstants.{CAP}
+use Rattle.pooma_script.specs.declared.count.TheConstants.{CAP}
 use Rattle.pooma_check.specs.Kept.{turns_kept, turns_of}
 
 get_behind : {A : Type 0} (xs : List A) (y : A) → slice_get (xs ++ y ∷ []) (length xs) ≡ Some y

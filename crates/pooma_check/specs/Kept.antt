@@ -4,13 +4,13 @@ use Rattle.std.specs.Map.{lookup}
 use Rattle.std.specs.Str.{bytes_eq}
 use Rattle.pooma_layout.specs.Blocks.{product}
 use Rattle.pooma_model.specs.Order.{Frame}
-use Rattle.pooma_check.specs.declared.count.TheConstants.{CAP}
+use Rattle.pooma_script.specs.declared.count.TheConstants.{CAP}
+use Rattle.pooma_script.specs.declared.names.Named.{Named}
+use Rattle.pooma_script.specs.declared.names.Named.TheVariants as named
+use Rattle.pooma_script.specs.declared.cause.LimitName.TheVariants as limit
+use Rattle.pooma_script.specs.Known.{Known, declared_in}
+use Rattle.pooma_script.specs.Limits.{most}
 use Rattle.pooma_check.specs.declared.known.Known.{Known as Kept}
-use Rattle.pooma_check.specs.declared.names.Named.{Named}
-use Rattle.pooma_check.specs.declared.names.Named.TheVariants as named
-use Rattle.pooma_check.specs.declared.cause.LimitName.TheVariants as limit
-use Rattle.pooma_check.specs.Known.{Known, declared_in}
-use Rattle.pooma_check.specs.Limits.{most}
 
 -- what is known by what is kept
 abbrev pub known_of : Kept → Known

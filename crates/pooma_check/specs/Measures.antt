@@ -16,8 +16,8 @@ use Rattle.pooma_parse.specs.declared.form.RawExpr.{RawExpr, fold-RawExpr}
 use Rattle.pooma_parse.specs.declared.form.RawExpr.TheOpen.{RawExpr-F}
 use Rattle.pooma_parse.specs.declared.form.RawLine.{RawLine}
 use Rattle.pooma_parse.specs.declared.form.RawLine.TheVariants as line
-use Rattle.pooma_check.specs.Known.{Known, is_scalar, layout_named, named_at, stencil_named}
-use Rattle.pooma_check.specs.Layouts.{axes_of, brick_of}
+use Rattle.pooma_script.specs.Known.{Known, is_scalar, layout_named, named_at, stencil_named}
+use Rattle.pooma_script.specs.Layouts.{axes_of, brick_of}
 
 abbrev pub reads_by : Known → List ℕ → RawExpr-F ℕ → ℕ
 reads_by known line (RawExpr-F.View seen) = if is_scalar (named_at known line seen.name) then 0 else 1

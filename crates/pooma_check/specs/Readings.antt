@@ -9,9 +9,9 @@ use Rattle.pooma_stencil.specs.Expansions.{expansion}
 use Rattle.pooma_stencil.specs.Stencils.{Stenciled}
 use Rattle.pooma_model.specs.Declarations.{Declared, MOST_CELLS, shape_at}
 use Rattle.pooma_model.specs.Fit.{IsReadable}
-use Rattle.pooma_check.specs.Statements.{first_positions}
-use Rattle.pooma_check.specs.Tests.{HasOwnAxes, HasPositions}
-use Rattle.pooma_check.specs.Views.{Reading, positions_read}
+use Rattle.pooma_script.specs.Statements.{first_positions}
+use Rattle.pooma_script.specs.Tests.{HasOwnAxes, HasPositions}
+use Rattle.pooma_script.specs.Views.{Reading, positions_read}
 
 -- the positions of a reading; where there is none, the one position without axes
 abbrev pub positions_of_first : Option Reading → List Interval

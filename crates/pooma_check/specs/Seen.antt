@@ -4,16 +4,14 @@ use Rattle.pooma_domain.specs.Cells.{Interval, IsIn}
 use Rattle.pooma_view.specs.Slots.{cell_named, positions_of}
 use Rattle.pooma_view.specs.Views.{Viewed}
 use Rattle.pooma_parse.specs.declared.form.RawExpr.{RawExpr}
-use Rattle.pooma_parse.specs.declared.form.RawLine.{RawLine}
-use Rattle.pooma_parse.specs.declared.form.RawLine.TheVariants as line
 use Rattle.pooma_model.specs.declared.statement.Action.{Action}
 use Rattle.pooma_model.specs.declared.statement.Action.TheVariants as action
 use Rattle.pooma_model.specs.Declarations.{Declared}
 use Rattle.pooma_model.specs.Fit.{AreFew, IsReadable}
-use Rattle.pooma_check.specs.Known.{Known, declared_in}
+use Rattle.pooma_script.specs.Known.{Known, declared_in}
+use Rattle.pooma_script.specs.Trees.{axes_in, names_fit, readings_in}
+use Rattle.pooma_script.specs.Views.{Reading, positions_read}
 use Rattle.pooma_check.specs.Readings.{IsSoundReading, views_of_reading}
-use Rattle.pooma_check.specs.Trees.{axes_in, names_fit, readings_in}
-use Rattle.pooma_check.specs.Views.{Reading, positions_read}
 
 -- the view may be read, at these positions
 pub record IsSeenAt (declared : Declared) (positions : List Interval) (view : Viewed) : Type 0 where
@@ -32,11 +30,6 @@ HasFewPositions (action.Assign target value mask) = AreFew (positions_of target.
 HasFewPositions (action.Reduce scalar reduction positions value) = AreFew positions
 HasFewPositions (action.PrintView view) = AreFew (positions_of view.slots)
 HasFewPositions other = Unit {0}
-
--- the line is a reduction
-abbrev pub IsReduction : RawLine → Type 0
-IsReduction (line.Reduce scalar word value) = Unit {0}
-IsReduction other = ⊥
 
 -- the view names cells of this box alone
 abbrev pub LiesOnly : List Interval → Viewed → Type 0

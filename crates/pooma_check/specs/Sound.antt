@@ -1,13 +1,13 @@
 -- Lines that have no cause but maybe a limit.
 use Rattle.std.specs.Prelude.{ℕ, List, [], ◌∷◌, length, All, IsTrue}
 use Rattle.pooma_parse.specs.declared.form.RawLine.{RawLine}
-use Rattle.pooma_check.specs.declared.cause.Cause.{Cause}
-use Rattle.pooma_check.specs.declared.cause.Cause.TheVariants as cause
-use Rattle.pooma_check.specs.declared.cause.LimitName.TheVariants as limit
-use Rattle.pooma_check.specs.Known.{Known, declared_in}
+use Rattle.pooma_script.specs.declared.cause.Cause.{Cause}
+use Rattle.pooma_script.specs.declared.cause.Cause.TheVariants as cause
+use Rattle.pooma_script.specs.declared.cause.LimitName.TheVariants as limit
+use Rattle.pooma_script.specs.Known.{Known, declared_in}
+use Rattle.pooma_script.specs.Statements.{action_of, task_of}
+use Rattle.pooma_script.specs.Tests.{HasDimensions, HasEqualLengths, HasNumbers, IsPlaced, IsWithin, LiesInside, ReadsApartOf, has_names}
 use Rattle.pooma_check.specs.Seen.{CanSee}
-use Rattle.pooma_check.specs.Statements.{action_of, task_of}
-use Rattle.pooma_check.specs.Tests.{HasDimensions, HasEqualLengths, HasNumbers, IsPlaced, IsWithin, LiesInside, ReadsApartOf, has_names}
 
 -- the causes before the limits, in their order
 abbrev pub early_causes : List Cause

@@ -4,7 +4,7 @@ use Rattle.pooma_domain.specs.Cells.{IsBox}
 use Rattle.pooma_view.specs.Slots.{positions_of}
 use Rattle.pooma_model.specs.declared.statement.Action.{Action}
 use Rattle.pooma_model.specs.declared.statement.Action.TheVariants as action
-use Rattle.pooma_check.specs.declared.cause.LimitName.{LimitName}
+use Rattle.pooma_script.specs.declared.cause.LimitName.{LimitName}
 use Rattle.pooma_check.specs.declared.limit.Verdict.{Verdict}
 use Rattle.pooma_check.specs.declared.limit.Verdict.TheVariants as verdict
 

@@ -1,38 +1,38 @@
 //! What a line does.
 ghost use Rattle.std.specs.Prelude.{◌≡◌, None, Some, IfOk, IfSome};
+ghost use Rattle.pooma_script.specs.Known.{named_at};
+ghost use Rattle.pooma_script.specs.Statements.{action_of, first_positions, scalar_given, task_of};
+ghost use Rattle.pooma_script.specs.Trees.{readings_in};
 ghost use Rattle.pooma_check.specs.Kept.{IsKept, known_of};
-ghost use Rattle.pooma_check.specs.Known.{named_at};
-ghost use Rattle.pooma_check.specs.Seen.{HasFewPositions, IsReduction};
+ghost use Rattle.pooma_check.specs.Seen.{HasFewPositions};
 ghost use Rattle.pooma_check.specs.Sound.{IsSound};
-ghost use Rattle.pooma_check.specs.Statements.{action_of, joined, scalar_given};
 
-use crate::apart::positions_of_task;
 use crate::cells::{view_at, view_read};
 use crate::known::Known;
-use crate::names::Named;
-use crate::operators::reduction_of;
-use crate::part::part;
-use crate::reading::reading_of_name;
-use crate::task::gather;
+use crate::lookup::reading_of_name;
 use crate::tree::tree;
 use pooma_domain::BoxN;
-use pooma_expr::{Expr, Op, Reduction};
+use pooma_expr::Reduction;
 use pooma_model::Action;
 use pooma_parse::{RawAssign, RawExpr, RawLine, RawView};
+use pooma_script::names::Named;
+use pooma_script::operators::{joined, reduction_of};
+use pooma_script::part::part;
 use pooma_text::Span;
-use pooma_view::View;
-use sqlite_items::Boxed;
 use std::alloc::{AllocError, Global};
 
-/// What a line does that has no cause but maybe a limit. None where it is no statement. Its only error is want of memory.
+/// What a line does that has no cause but maybe a limit, at the positions that it has. None where it is no statement. Its only
+/// error is want of memory.
 pub fn action(
     alloc: Global,
     known: &Known<'_>,
     text: &[u8],
     form: &RawLine,
+    positions: &BoxN,
 ) -> Result<Option<Action>, AllocError>
     requires kept { IsKept known.now }
     requires sound { IsSound (known_of known.now) text.now form.now }
+    requires positions { positions.now ≡ (task_of (known_of known.now) text.now form.now).positions }
     ensures action { IfOk result (λ does. does ≡ action_of (known_of known.now) text.now form.now) }
     ensures positions { IfOk result (λ does. IfSome does HasFewPositions) }
 {
@@ -41,7 +41,9 @@ pub fn action(
             Ok(Some(assign(alloc, known, text, target, *op, value)?))
         }
         RawLine::Scalar { name, value } => Ok(Some(scalar(alloc, known, text, *name, value)?)),
-        RawLine::Reduce { .. } => Ok(Some(reduce(alloc, known, text, form)?)),
+        RawLine::Reduce { name, word, value } => {
+            Ok(Some(reduce(alloc, known, text, *name, *word, value, positions)?))
+        }
         RawLine::PrintView { view } => Ok(Some(print_view(known, text, view))),
         RawLine::PrintName { name } => Ok(Some(print_name(known, text, *name))),
         RawLine::Block => Ok(Some(Action::Block)),
@@ -52,26 +54,6 @@ pub fn action(
         | RawLine::Stencil { .. }
         | RawLine::Repeat { .. }
         | RawLine::End => Ok(None),
-    }
-}
-
-/// What the target was, with what the operator joins to it.
-fn with_target(alloc: Global, op: Op, target: View, value: Expr) -> Result<Expr, AllocError>
-    ensures { IfOk result (λ made. made ≡ Expr.Bin op (Expr.Read target) value) }
-{
-    let old = Boxed::new(alloc, Expr::Read(target))?;
-    Ok(Expr::Bin(op, old, Boxed::new(alloc, value)?))
-}
-
-/// The value that an assignment gives.
-fn joined(alloc: Global, op: RawAssign, target: View, value: Expr) -> Result<Expr, AllocError>
-    ensures { IfOk result (λ made. made ≡ joined op target value) }
-{
-    match op {
-        RawAssign::Plain => Ok(value),
-        RawAssign::Add => with_target(alloc, Op::Add, target, value),
-        RawAssign::Sub => with_target(alloc, Op::Sub, target, value),
-        RawAssign::Mul => with_target(alloc, Op::Mul, target, value),
     }
 }
 
@@ -132,23 +114,22 @@ fn reduce(
     alloc: Global,
     known: &Known<'_>,
     text: &[u8],
-    form: &RawLine,
+    name: Span,
+    word: Span,
+    value: &RawExpr,
+    positions: &BoxN,
 ) -> Result<Action, AllocError>
     requires kept { IsKept known.now }
-    requires sound { IsSound (known_of known.now) text.now form.now }
-    requires reduces { IsReduction form.now }
-    ensures does { IfOk result (λ does. Some does ≡ action_of (known_of known.now) text.now form.now) }
+    requires sound { IsSound (known_of known.now) text.now (RawLine.Reduce name word value.now) }
+    requires positions { positions.now ≡ first_positions (readings_in (known_of known.now) text.now value.now) }
+    ensures does { IfOk result (λ does. Some does ≡ action_of (known_of known.now) text.now (RawLine.Reduce name word value.now)) }
     ensures positions { IfOk result HasFewPositions }
 {
-    let RawLine::Reduce { name, word, value } = form else {
-        unreachable!();
-    };
-    let task = gather(alloc, known, text, form)?;
     let value = tree(alloc, known, text, value)?;
     Ok(Action::Reduce {
-        scalar: scalar_given(known, text, *name),
-        reduction: reduction_of(part(text, *word)),
-        positions: positions_of_task(known, &task),
+        scalar: scalar_given(known, text, name),
+        reduction: reduction_of(part(text, word)),
+        positions: *positions,
         value,
     })
 }

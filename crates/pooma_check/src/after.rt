@@ -2,20 +2,20 @@
 ghost use Rattle.std.specs.Prelude.{◌≡◌, ◌+◌, ◌-◌, ◌*◌, ◌^◌, ◌<◌, ◌≤◌, ℕ, OnOk};
 ghost use Rattle.pooma_text.specs.Lines.{text_at};
 ghost use Rattle.pooma_model.specs.Fit.{IsFit};
-ghost use Rattle.pooma_check.specs.After.{after, with_action, with_declaration, with_scalar};
+ghost use Rattle.pooma_script.specs.After.{after, with_action, with_declaration, with_scalar};
+ghost use Rattle.pooma_script.specs.Known.{named_at, turns_in};
+ghost use Rattle.pooma_script.specs.Statements.{action_of, values_printed};
 ghost use Rattle.pooma_check.specs.Kept.{IsKept, known_of, turns_kept};
-ghost use Rattle.pooma_check.specs.Known.{named_at, turns_in};
 ghost use Rattle.pooma_check.specs.Sound.{IsLimited, IsSound};
-ghost use Rattle.pooma_check.specs.Statements.{action_of, values_printed};
 ghost use Rattle.pooma_check.specs.Verdicts.{IsPrintable};
 
 use crate::declare::{take_array, take_brick, take_field, take_layout, take_stencil};
 use crate::known::Known;
-use crate::names::Named;
-use crate::part::part;
 use crate::repeats::{begin_repeat, end_repeat, turns_now};
 use pooma_model::{Action, Statement};
 use pooma_parse::RawLine;
+use pooma_script::names::Named;
+use pooma_script::part::part;
 use pooma_stencil::forms_of_expansions;
 use pooma_text::Span;
 use std::alloc::{AllocError, Global};

@@ -1,29 +1,25 @@
 //! How much a line has, one test a limit. None of them walks over cells, positions or turns.
-ghost use Rattle.std.specs.Prelude.{◌≡◌, ◌↔◌, ◌+◌, ◌^◌, ◌<◌, ◌≤◌, ◌≤ℤ◌, ℕ, pos, [], length, min, IfSome, IsTrue, MatchOption};
-ghost use Rattle.pooma_text.specs.Lines.{text_at};
+ghost use Rattle.std.specs.Prelude.{◌≡◌, ◌↔◌, ◌+◌, ◌<◌, ◌≤◌, ℕ, [], length, min, IfSome, IsTrue, MatchOption};
 ghost use Rattle.pooma_domain.specs.Cells.{cells_of};
 ghost use Rattle.pooma_layout.specs.Patches.{allocated_count, total_of};
 ghost use Rattle.pooma_expr.specs.Trees.{depth_of, views_of};
 ghost use Rattle.pooma_view.specs.Views.{Viewed};
-ghost use Rattle.pooma_check.specs.declared.count.TheConstants.{CAP};
+ghost use Rattle.pooma_script.specs.declared.count.TheConstants.{CAP};
+ghost use Rattle.pooma_script.specs.Known.{layout_named, named_at};
+ghost use Rattle.pooma_script.specs.Statements.{joined};
+ghost use Rattle.pooma_script.specs.Tests.{IsWithin, total_declared};
+ghost use Rattle.pooma_script.specs.Trees.{tree_of};
 ghost use Rattle.pooma_check.specs.Kept.{IsKept, known_of};
-ghost use Rattle.pooma_check.specs.Known.{layout_named, named_at};
 ghost use Rattle.pooma_check.specs.Measures.{allocated_by, old_reads};
-ghost use Rattle.pooma_check.specs.Statements.{joined};
-ghost use Rattle.pooma_check.specs.Tests.{AreFew, HasFewExtents, HasFewGuards, HasFewPatches, HasNearBounds, IsWithin, name_declared, total_declared};
-ghost use Rattle.pooma_check.specs.Trees.{tree_of};
 
-use crate::cause::LimitName;
-use crate::count::{CAP, cells_in, patches_in};
 use crate::known::Known;
-use crate::layout::{are_covering, are_near_zero, have_few_layers};
 use crate::measure::{is_tree_within_depth, reads_up_to};
-use crate::names::Named;
-use crate::part::part;
-use crate::stencil::is_within_depth;
-use crate::tests::both;
 use pooma_layout::Layout;
 use pooma_parse::{RawAssign, RawExpr, RawLine};
+use pooma_script::LimitName;
+use pooma_script::count::{CAP, cells_in};
+use pooma_script::names::Named;
+use pooma_script::stencil::is_within_depth;
 use pooma_text::Span;
 
 /// The layout that a name names. None where it names none.
@@ -37,29 +33,6 @@ fn layout_named<'k>(known: &'k Known<'_>, text: &[u8], name: Span) -> Option<&'k
     }
 }
 
-/// Whether the line may have this number.
-pub fn is_line_number(number: u32) -> bool
-    ensures { IsTrue result ↔ (number ≤ 10000) }
-{
-    number <= 10_000
-}
-
-/// Whether the name that the line declares is not too long.
-pub fn has_short_name(text: &[u8], form: &RawLine) -> bool
-    ensures { IsTrue result ↔ IfSome (name_declared form.now) (λ name. length (text_at text.now name) ≤ 32) }
-{
-    match form {
-        RawLine::Layout { name, .. }
-        | RawLine::Brick { name, .. }
-        | RawLine::Array { name, .. }
-        | RawLine::Field { name, .. }
-        | RawLine::Stencil { name, .. }
-        | RawLine::Scalar { name, .. }
-        | RawLine::Reduce { name, .. } => part(text, *name).len() <= 32,
-        _ => true,
-    }
-}
-
 /// Whether there are not too many arrays after the line.
 pub fn has_few_arrays(known: &Known<'_>, text: &[u8], form: &RawLine) -> bool
     ensures { (number : ℕ) → IsTrue result ↔ IsWithin LimitName.Arrays number (known_of known.now) text.now form.now }
@@ -70,75 +43,6 @@ pub fn has_few_arrays(known: &Known<'_>, text: &[u8], form: &RawLine) -> bool
             .arrays()
             < 256,
         _ => known.draft.arrays() <= 256,
-    }
-}
-
-/// Whether the bounds of the domain that the line has lie within plus and minus 1,000,000.
-pub fn has_near_bounds(form: &RawLine) -> bool
-    ensures { IsTrue result ↔ HasNearBounds form.now }
-{
-    match form {
-        RawLine::Layout { domain, .. } | RawLine::Brick { domain, .. } => are_near_zero(
-            domain.as_slice(),
-        ),
-        _ => true,
-    }
-}
-
-/// Whether the layout of the line does not have too many patches.
-pub fn has_few_patches(form: &RawLine) -> bool
-    ensures { IsTrue result ↔ HasFewPatches form.now }
-{
-    match form {
-        RawLine::Layout { cutting, .. } => patches_in(cutting) <= 256,
-        _ => true,
-    }
-}
-
-/// Whether the layout of the line has 0 to 8 guard layers on each axis, and no more external ones than numbers.
-pub fn has_few_guards(form: &RawLine) -> bool
-    ensures { IsTrue result ↔ HasFewGuards form.now }
-{
-    match form {
-        RawLine::Layout {
-            domain,
-            internal,
-            external,
-            ..
-        } => {
-            let domain = domain.as_slice();
-            let external = external.as_slice();
-            let few = both(
-                have_few_layers(domain, internal.as_slice()),
-                have_few_layers(domain, external),
-            );
-            both(few, are_covering(domain, external))
-        }
-        _ => true,
-    }
-}
-
-fn is_extent(n: i32) -> bool
-    ensures { IsTrue result ↔ ((pos 0 ≤ℤ n) × (n ≤ℤ pos 8)) }
-{
-    (0..=8).contains(&n)
-}
-
-fn are_extents(list: &[i32]) -> bool
-    ensures { IsTrue result ↔ AreFew LimitName.Extents list.now }
-{
-    list.iter().all(|n| is_extent(*n))
-}
-
-/// Whether the extents of the stencil of the line are 0 to 8.
-pub fn has_few_extents(form: &RawLine) -> bool
-    ensures { IsTrue result ↔ HasFewExtents form.now }
-{
-    match form {
-        RawLine::Stencil { lower, upper, .. } => {
-            both(are_extents(lower.as_slice()), are_extents(upper.as_slice()))
-        }
-        _ => true,
     }
 }
 

@@ -3,18 +3,18 @@ ghost use Rattle.std.specs.Prelude.{◌≡◌, ◌↔◌, ◌≤◌, List, ◌�
 ghost use Rattle.pooma_domain.specs.Cells.{IsBox};
 ghost use Rattle.pooma_view.specs.Overlap.{IsOverlap};
 ghost use Rattle.pooma_view.specs.Slots.{positions_of};
+ghost use Rattle.pooma_script.specs.Known.{declared_in};
+ghost use Rattle.pooma_script.specs.Tests.{HasEqualLengths};
+ghost use Rattle.pooma_script.specs.Views.{Reading as Read, positions_read};
 ghost use Rattle.pooma_check.specs.Kept.{known_of};
-ghost use Rattle.pooma_check.specs.Known.{declared_in};
 ghost use Rattle.pooma_check.specs.Readings.{HasPlaces, IsSoundReading, views_of_reading};
-ghost use Rattle.pooma_check.specs.Tests.{HasEqualLengths};
-ghost use Rattle.pooma_check.specs.Views.{Reading as Read, positions_read};
 
 use crate::cells::view_read;
 use crate::known::Known;
-use crate::reading::Reading;
 use crate::task::Task;
-use crate::tests::both;
 use pooma_domain::BoxN;
+use pooma_script::reading::Reading;
+use pooma_script::tests::both;
 use pooma_view::View;
 
 /// The positions of what is read.

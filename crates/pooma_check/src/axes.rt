@@ -1,19 +1,17 @@
 //! Whether the views of a statement have the axes that they have to.
-ghost use Rattle.std.specs.Prelude.{◌≡◌, ◌↔◌, length, All, IfSome, IsTrue};
+ghost use Rattle.std.specs.Prelude.{◌≡◌, ◌↔◌, length, All, IsTrue};
 ghost use Rattle.pooma_field.specs.ShapeOf.{shape_of};
 ghost use Rattle.pooma_model.specs.Declarations.{shape_at};
+ghost use Rattle.pooma_script.specs.Known.{declared_in};
+ghost use Rattle.pooma_script.specs.Tests.{HasEqualAxes, HasOwnAxes};
 ghost use Rattle.pooma_check.specs.Kept.{known_of};
-ghost use Rattle.pooma_check.specs.Known.{declared_in};
-ghost use Rattle.pooma_check.specs.Tests.{HasEqualAxes, HasOwnAxes};
-ghost use Rattle.pooma_check.specs.Views.{positions_read};
 
 use crate::known::Known;
-use crate::reading::Reading;
 use crate::task::Task;
-use crate::tests::both;
-use crate::view::ranges_in;
 use pooma_domain::BoxN;
 use pooma_field::Shape;
+use pooma_script::reading::{Reading, all_go_along, axes_read, fits_stencil};
+use pooma_script::tests::both;
 
 /// The shape of an array; of one that is not there, a shape without axes.
 fn shape_at(known: &Known<'_>, array: u32) -> Shape
@@ -23,16 +21,6 @@ fn shape_at(known: &Known<'_>, array: u32) -> Shape
         *known.draft.shape(array)
     } else {
         Shape::of(BoxN::point(), BoxN::point(), None).unwrap()
-    }
-}
-
-/// Whether a view has positions of as many axes as the stencil on it.
-fn fits_stencil(reading: &Reading<'_>) -> bool
-    ensures { IsTrue result ↔ IfSome reading.now.stencil (λ stencil. length reading.now.positions ≡ length stencil.lower) }
-{
-    match reading.stencil() {
-        None => true,
-        Some(stencil) => ranges_in(reading.subs()) == stencil.dims(),
     }
 }
 
@@ -53,26 +41,6 @@ fn all_have_own_axes(known: &Known<'_>, readings: &[Reading<'_>]) -> bool
     ensures { IsTrue result ↔ All (HasOwnAxes (declared_in (known_of known.now))) readings.now }
 {
     readings.iter().all(|reading| has_own_axes(known, reading))
-}
-
-/// Whether the positions of each view have so many axes.
-fn all_go_along(readings: &[Reading<'_>], axes: usize) -> bool
-    ensures { IsTrue result ↔ All (λ reading. length reading.positions ≡ axes) readings.now }
-{
-    readings
-        .iter()
-        .all(|reading| ranges_in(reading.subs()) == axes)
-}
-
-/// How many axes the positions of what is read have.
-fn axes_read(reading: &Reading<'_>) -> usize
-    ensures { result ≡ length (positions_read reading.now) }
-{
-    let axes = ranges_in(reading.subs());
-    match reading.stencil() {
-        None => axes,
-        Some(stencil) => axes.min(stencil.lower().dims().min(stencil.upper().dims())),
-    }
 }
 
 /// How many axes the positions of a statement have.

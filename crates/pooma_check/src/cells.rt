@@ -6,19 +6,20 @@ ghost use Rattle.pooma_field.specs.Shapes.{own_area};
 ghost use Rattle.pooma_model.specs.Declarations.{shape_at};
 ghost use Rattle.pooma_model.specs.Fit.{AreFew, IsReadable, IsWritable};
 ghost use Rattle.pooma_view.specs.Slots.{positions_of};
+ghost use Rattle.pooma_script.specs.Known.{declared_in, is_array, named_at};
+ghost use Rattle.pooma_script.specs.Tests.{HasOwnAxes, HasPositions};
+ghost use Rattle.pooma_script.specs.Views.{Reading as Read, reading_of, view_of};
 ghost use Rattle.pooma_check.specs.Kept.{IsKept, known_of};
-ghost use Rattle.pooma_check.specs.Known.{declared_in, is_array, named_at};
 ghost use Rattle.pooma_check.specs.Readings.{CanView, HasPlaces, IsShapeThere};
-ghost use Rattle.pooma_check.specs.Tests.{HasOwnAxes, HasPositions};
-ghost use Rattle.pooma_check.specs.Views.{Reading as Read, reading_of, view_of};
 
 use crate::known::Known;
-use crate::reading::{Reading, reading_at};
-use crate::slot::view_in;
-use crate::tests::both;
+use crate::lookup::reading_at;
 use pooma_domain::{BoxN, order_of_cells};
 use pooma_field::Shape;
 use pooma_parse::RawView;
+use pooma_script::reading::Reading;
+use pooma_script::slot::view_in;
+use pooma_script::tests::both;
 use pooma_view::View;
 
 /// The shape of an array that is there.

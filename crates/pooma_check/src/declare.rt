@@ -1,60 +1,32 @@
 //! What the lines of layouts, arrays and stencils make known.
-ghost use Rattle.std.specs.Prelude.{◌≡◌, ◌+◌, ◌*◌, ◌≤◌, ◌<◌, [], None, Some, length, All, IsTrue, IfOk, OnOk, map};
+ghost use Rattle.std.specs.Prelude.{◌≡◌, ◌+◌, ◌*◌, ◌≤◌, ◌<◌, None, Some, length, All, IsTrue, IfOk, OnOk, map};
 ghost use Rattle.std.specs.Map.{lookup};
 ghost use Rattle.std.specs.List.{AllZip};
 ghost use Rattle.std.specs.Str.{bytes_eq};
-ghost use Rattle.pooma_text.specs.Lines.{text_at};
 ghost use Rattle.pooma_domain.specs.Cells.{IsIn, IsOrdered, cells_of};
 ghost use Rattle.pooma_domain.specs.Operations.{reaches};
 ghost use Rattle.pooma_field.specs.Faces.{by_axis};
 ghost use Rattle.pooma_layout.specs.Axes.{IsCovering};
 ghost use Rattle.pooma_layout.specs.Blocks.{product};
 ghost use Rattle.pooma_layout.specs.Patches.{allocated_count, total_of};
-ghost use Rattle.pooma_check.specs.After.{with_layout, with_new_array, with_stencil};
-ghost use Rattle.pooma_check.specs.Bodies.{body_of, offsets_in};
+ghost use Rattle.pooma_script.specs.After.{with_layout, with_new_array, with_stencil};
+ghost use Rattle.pooma_script.specs.Bodies.{body_of, offsets_in};
+ghost use Rattle.pooma_script.specs.Known.{is_layout, layout_named, named_at};
+ghost use Rattle.pooma_script.specs.Layouts.{axes_of, brick_of, layers, layout_of, shape_on};
+ghost use Rattle.pooma_script.specs.Operators.{updater_of};
+ghost use Rattle.pooma_script.specs.Tests.{AreAxes, AreFew, CutsInside, HasParts, IsNearZero, cut_count, parts_by};
 ghost use Rattle.pooma_check.specs.Kept.{IsKept, known_of};
-ghost use Rattle.pooma_check.specs.Known.{is_layout, layout_named, named_at};
-ghost use Rattle.pooma_check.specs.Layouts.{axes_of, brick_of, layers, layout_of, shape_on};
-ghost use Rattle.pooma_check.specs.Operators.{updater_of};
-ghost use Rattle.pooma_check.specs.Tests.{AreAxes, AreFew, CutsInside, HasParts, IsNearZero, cut_count, parts_by};
 
-use crate::body::body;
-use crate::cause::LimitName;
 use crate::known::{Known, note_array, note_layout};
-use crate::made::{cell_of, cuts_of, faces_of, grid_of, shape_over};
-use crate::names::Named;
 use pooma_layout::Layout;
 use pooma_parse::{RawCutting, RawExpr, Updater4};
+use pooma_script::LimitName;
+use pooma_script::body::body;
+use pooma_script::made::{brick, cell_of, faces_of, said, shape_over};
+use pooma_script::names::Named;
 use pooma_stencil::Stencil;
 use pooma_text::Span;
 use std::alloc::{AllocError, Global};
-
-/// The layout that a line says.
-fn said(
-    alloc: Global,
-    domain: &[(i32, i32)],
-    cutting: &RawCutting,
-    internal: &[i32],
-    external: &[i32],
-) -> Result<Layout, AllocError>
-    requires axes { AreAxes (length domain.now) }
-    requires cut { cut_count cutting.now ≡ length domain.now }
-    requires layers { (length (layers (axes_of domain.now) internal.now) ≡ length domain.now)
-        × (length (layers (axes_of domain.now) external.now) ≡ length domain.now) }
-    requires ordered { All IsOrdered (axes_of domain.now) }
-    requires parts { HasParts (axes_of domain.now) cutting.now }
-    requires cuts { CutsInside (axes_of domain.now) cutting.now }
-    requires near { All IsNearZero domain.now }
-    requires patches { product (parts_by cutting.now) ≤ 256 }
-    requires guards { AreFew LimitName.Guards (layers (axes_of domain.now) internal.now) × AreFew LimitName.Guards (layers (axes_of domain.now) external.now)
-        × AllZip IsCovering (axes_of domain.now) (layers (axes_of domain.now) external.now) }
-    ensures { IfOk result (λ made. made ≡ layout_of (axes_of domain.now) cutting.now internal.now external.now) }
-{
-    match cutting {
-        RawCutting::Blocks(blocks) => grid_of(alloc, domain, blocks.as_slice(), internal, external),
-        RawCutting::Cuts(cuts) => cuts_of(alloc, domain, cuts.as_slice(), internal, external),
-    }
-}
 
 /// Notes the layout that a line says. Its only error is want of memory.
 pub fn take_layout<'a>(
@@ -84,17 +56,6 @@ pub fn take_layout<'a>(
 {
     let layout = said(alloc, domain, cutting, internal, external)?;
     note_layout(known, name, layout)
-}
-
-/// The layout of a brick: one patch without guards.
-fn brick(alloc: Global, domain: &[(i32, i32)]) -> Result<Layout, AllocError>
-    requires axes { AreAxes (length domain.now) }
-    requires ordered { All IsOrdered (axes_of domain.now) }
-    requires near { All IsNearZero domain.now }
-    ensures { IfOk result (λ made. made ≡ brick_of (axes_of domain.now)) }
-{
-    let ones = [1, 1, 1];
-    grid_of(alloc, domain, &ones[..domain.len()], &[], &[])
 }
 
 /// Declares the brick that a line says. Its only error is want of memory.

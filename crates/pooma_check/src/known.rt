@@ -5,14 +5,14 @@ ghost use Rattle.std.specs.Str.{bytes_eq};
 ghost use Rattle.pooma_domain.specs.Cells.{cells_of};
 ghost use Rattle.pooma_field.specs.ShapeOf.{shape_of};
 ghost use Rattle.pooma_layout.specs.Patches.{allocated_count, physical_of, total_of};
-ghost use Rattle.pooma_check.specs.After.{with_layout, with_new_array};
+ghost use Rattle.pooma_script.specs.After.{with_layout, with_new_array};
+ghost use Rattle.pooma_script.specs.Known.{nothing_known};
 ghost use Rattle.pooma_check.specs.Kept.{IsKept, known_of};
-ghost use Rattle.pooma_check.specs.Known.{nothing_known};
 
-use crate::names::{Named, Names};
 use pooma_field::Shape;
 use pooma_layout::Layout;
 use pooma_model::Draft;
+use pooma_script::names::{Named, Names};
 use pooma_stencil::Stencil;
 use std::alloc::{AllocError, Global};
 

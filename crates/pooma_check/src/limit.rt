@@ -3,27 +3,31 @@ ghost use Rattle.std.specs.Prelude.{◌≡◌, ◌↔◌, ℕ, List, [], ◌∷�
 ghost use Rattle.std.specs.List.{list_all};
 ghost use Rattle.std.specs.Option.{ForSome};
 ghost use Rattle.pooma_parse.specs.declared.form.RawLine.{RawLine};
-ghost use Rattle.pooma_check.specs.Causes.{IsFirstFailed};
+ghost use Rattle.pooma_script.specs.Causes.{IsFirstFailed};
+ghost use Rattle.pooma_script.specs.Known.{declared_in};
+ghost use Rattle.pooma_script.specs.Limits.{is_early, late_limits, line_limits};
+ghost use Rattle.pooma_script.specs.Statements.{action_of, task_of};
+ghost use Rattle.pooma_script.specs.Tests.{IsWithin};
 ghost use Rattle.pooma_check.specs.Kept.{IsKept, known_of};
-ghost use Rattle.pooma_check.specs.Known.{declared_in};
-ghost use Rattle.pooma_check.specs.Limits.{is_early, late_limits, line_limits};
 ghost use Rattle.pooma_check.specs.Measures.{CanBeCut};
 ghost use Rattle.pooma_check.specs.Sound.{IsSound};
-ghost use Rattle.pooma_check.specs.Statements.{action_of};
-ghost use Rattle.pooma_check.specs.Tests.{IsWithin};
 ghost use Rattle.pooma_check.specs.Verdicts.{GoesWith, StopsAt};
 
 use crate::action::action;
 use crate::amount::{
-    allocates_few, has_few_arrays, has_few_cells, has_few_extents, has_few_guards, has_few_patches,
-    has_few_repeats, has_near_bounds, has_short_name, is_line_number, is_shallow, reads_few,
+    allocates_few, has_few_arrays, has_few_cells, has_few_repeats, is_shallow, reads_few,
 };
-use crate::cause::LimitName;
 use crate::known::Known;
 use crate::parts::has_few_parts;
 use crate::total::{executes_few, prints_few};
+use pooma_domain::BoxN;
 use pooma_model::Action;
 use pooma_parse::RawLine;
+use pooma_script::LimitName;
+use pooma_script::size::{
+    has_few_extents, has_few_guards, has_few_patches, has_near_bounds, has_short_name,
+    is_line_number,
+};
 use std::alloc::{AllocError, Global};
 
 /// What is found of the limits of a line.
@@ -105,17 +109,19 @@ fn first_passed_by_action(
     Ok(None)
 }
 
-/// The first limit that a line without another cause passes, or what it does. The action is made once the limits are looked at
-/// that do not need it, so it has at most 64 views and a depth of 256. The only error is want of memory.
+/// The first limit that a line without another cause passes, or what it does at its positions. The action is made once the limits
+/// are looked at that do not need it, so it has at most 64 views and a depth of 256. The only error is want of memory.
 pub fn within_limits(
     alloc: Global,
     number: u32,
     known: &Known<'_>,
     text: &[u8],
     form: &RawLine,
+    positions: &BoxN,
 ) -> Result<Verdict, AllocError>
     requires kept { IsKept known.now }
     requires sound { IsSound (known_of known.now) text.now form.now }
+    requires positions { positions.now ≡ (task_of (known_of known.now) text.now form.now).positions }
     ensures stops { IfOk result (λ verdict. StopsAt verdict (λ name.
         IsFirstFailed (λ limit. IsWithin limit number (known_of known.now) text.now form.now) line_limits (Some name))) }
     ensures goes { IfOk result (λ verdict. GoesWith verdict (λ does.
@@ -139,7 +145,7 @@ pub fn within_limits(
     if let Some(limit) = first_passed(&early, number, known, text, form) {
         return Ok(Verdict::Stops(limit));
     }
-    let does = action(alloc, known, text, form)?;
+    let does = action(alloc, known, text, form, positions)?;
     match first_passed_by_action(alloc, known, &does)? {
         Some(limit) => Ok(Verdict::Stops(limit)),
         None => Ok(Verdict::Goes(does)),

@@ -1,14 +1,14 @@
 //! How many views the tree of an expression reads and how deep it is, found without the tree.
 ghost use Rattle.std.specs.Prelude.{◌≡◌, ◌≤◌, ◌↔◌, if◌then◌else◌, length, min, IsTrue, MatchOption};
 ghost use Rattle.pooma_stencil.specs.Bodies.{body_depth, offsets_of};
-ghost use Rattle.pooma_check.specs.Bodies.{no_stencil};
+ghost use Rattle.pooma_script.specs.Bodies.{no_stencil};
+ghost use Rattle.pooma_script.specs.Known.{is_scalar, named_at, stencil_named};
 ghost use Rattle.pooma_check.specs.Kept.{known_of};
-ghost use Rattle.pooma_check.specs.Known.{is_scalar, named_at, stencil_named};
 ghost use Rattle.pooma_check.specs.Measures.{tree_depth, tree_reads};
 
 use crate::known::Known;
-use crate::names::{Named, is_scalar};
 use pooma_parse::RawExpr;
+use pooma_script::names::{Named, is_scalar};
 use pooma_stencil::Stencil;
 use pooma_text::Span;
 

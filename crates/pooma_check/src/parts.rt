@@ -6,10 +6,10 @@ ghost use Rattle.pooma_view.specs.Slots.{positions_of};
 ghost use Rattle.pooma_expr.specs.Trees.{views_of};
 ghost use Rattle.pooma_model.specs.Parts.{parts_of};
 ghost use Rattle.pooma_part.specs.Cuts.{laid_in};
+ghost use Rattle.pooma_script.specs.Known.{declared_in};
+ghost use Rattle.pooma_script.specs.Tests.{HasFewParts};
 ghost use Rattle.pooma_check.specs.Kept.{known_of};
-ghost use Rattle.pooma_check.specs.Known.{declared_in};
 ghost use Rattle.pooma_check.specs.Measures.{AreThere, CanBeCut};
-ghost use Rattle.pooma_check.specs.Tests.{HasFewParts};
 
 use crate::known::Known;
 use pooma_domain::BoxN;

@@ -1,7 +1,7 @@
 //! Refusals.
 ghost use Rattle.std.specs.Prelude.{◌≡◌};
 
-use crate::cause::{Cause, CheckError, Refusal};
+use pooma_script::{Cause, CheckError, Refusal};
 
 /// The error that a line is refused.
 pub fn refuse(line: u32, cause: Cause) -> CheckError

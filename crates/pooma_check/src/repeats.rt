@@ -2,12 +2,12 @@
 ghost use Rattle.std.specs.Prelude.{◌≡◌, ◌<◌, ◌≤ℤ◌, length, min, pos, OnOk};
 ghost use Rattle.pooma_domain.specs.Cells.{count_of};
 ghost use Rattle.pooma_model.specs.Order.{with_end, with_repeat};
-ghost use Rattle.pooma_check.specs.declared.count.TheConstants.{CAP};
+ghost use Rattle.pooma_script.specs.declared.count.TheConstants.{CAP};
+ghost use Rattle.pooma_script.specs.Known.{turns_in};
 ghost use Rattle.pooma_check.specs.Kept.{known_of, turns_kept};
-ghost use Rattle.pooma_check.specs.Known.{turns_in};
 
-use crate::count::times;
 use crate::known::Known;
+use pooma_script::count::times;
 use std::alloc::{AllocError, Global};
 
 /// How often a line is done that stands in all open repeats, or `CAP` where that is more.

@@ -1,16 +1,16 @@
 //! The program of a script, line after line.
 ghost use Rattle.std.specs.Prelude.{◌≡◌, ◌+◌, ◌≤◌, [], length, map, All, IfErr, IfOk};
 ghost use Rattle.pooma_text.specs.Lines.{IsPart, lines_of, text_at};
+ghost use Rattle.pooma_script.specs.Known.{nothing_known};
+ghost use Rattle.pooma_script.specs.Refusals.{IfRefused};
+ghost use Rattle.pooma_script.specs.Scripts.{IsScript, Read, Refused, Runs, script_at_end};
 ghost use Rattle.pooma_check.specs.Kept.{IsKept, known_of};
-ghost use Rattle.pooma_check.specs.Known.{nothing_known};
-ghost use Rattle.pooma_check.specs.Refusals.{IfRefused};
-ghost use Rattle.pooma_check.specs.Scripts.{IsScript, Read, Refused, Runs, script_at_end};
 
-use crate::cause::{Cause, CheckError, LimitName};
 use crate::known::{Known, nothing};
 use crate::line::read_line;
 use crate::refusal::refuse;
 use pooma_model::Program;
+use pooma_script::{Cause, CheckError, LimitName};
 use pooma_text::{Span, lines};
 use std::alloc::Global;
 

@@ -5,15 +5,15 @@ ghost use Rattle.pooma_expr.specs.Trees.{views_of};
 ghost use Rattle.pooma_model.specs.Fit.{AreFew};
 ghost use Rattle.pooma_stencil.specs.Expansions.{IsPartOf, expansion, positions_on};
 ghost use Rattle.pooma_view.specs.Slots.{positions_of};
+ghost use Rattle.pooma_script.specs.Known.{declared_in};
 ghost use Rattle.pooma_check.specs.Kept.{known_of};
-ghost use Rattle.pooma_check.specs.Known.{declared_in};
 ghost use Rattle.pooma_check.specs.Readings.{IsSoundReading};
 ghost use Rattle.pooma_check.specs.Seen.{CanSee, LiesOnly};
 
 use crate::cells::{shape_there, view_read};
 use crate::known::Known;
-use crate::reading::Reading;
 use pooma_domain::{BoxN, order_of_cells};
+use pooma_script::reading::Reading;
 use pooma_stencil::{Stencil, values_of_expansions};
 use pooma_view::View;
 

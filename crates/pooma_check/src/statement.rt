@@ -1,22 +1,22 @@
 //! The tests of dimension, of ranges, of cells and of overlaps on a line.
 ghost use Rattle.std.specs.Prelude.{◌≡◌, ◌↔◌, ◌≤◌, length, IsTrue};
+ghost use Rattle.pooma_script.specs.Known.{layout_named};
+ghost use Rattle.pooma_script.specs.Statements.{action_of, task_of};
+ghost use Rattle.pooma_script.specs.Tests.{HasDimensions, HasNumbers, LiesInside, ReadsApartOf};
 ghost use Rattle.pooma_check.specs.Kept.{known_of};
-ghost use Rattle.pooma_check.specs.Known.{layout_named};
-ghost use Rattle.pooma_check.specs.Statements.{action_of, task_of};
-ghost use Rattle.pooma_check.specs.Tests.{HasDimensions, HasNumbers, LiesInside, ReadsApartOf};
 
 use crate::apart::others_are_apart;
 use crate::axes::has_equal_axes;
 use crate::cells::{all_are_readable, first_is_writable};
-use crate::declaration::{are_axes, layout_has_axes, layout_has_numbers, stencil_has_axes};
 use crate::known::Known;
-use crate::layout::{are_ordered, cuts_inside};
-use crate::names::Named;
-use crate::places::all_have_positions;
-use crate::stencil::are_within;
 use crate::task::Task;
-use crate::tests::both;
 use pooma_parse::RawLine;
+use pooma_script::declaration::{are_axes, layout_has_axes, layout_has_numbers, stencil_has_axes};
+use pooma_script::layout::{are_ordered, cuts_inside};
+use pooma_script::names::Named;
+use pooma_script::places::all_have_positions;
+use pooma_script::stencil::are_within;
+use pooma_script::tests::both;
 use pooma_view::cells_apart;
 
 /// How many axes a layout has; what is none has none.

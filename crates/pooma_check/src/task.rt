@@ -1,19 +1,20 @@
 //! What the line of a statement reads, and at which positions.
 ghost use Rattle.std.specs.Prelude.{◌≡◌, [], ◌∷◌, ◌++◌, None, Some, IfOk, IsTrue, OnOk};
 ghost use Rattle.std.specs.Option.{option_copied};
+ghost use Rattle.pooma_script.specs.Known.{is_array, is_stencil, named_at, stencil_named};
+ghost use Rattle.pooma_script.specs.Statements.{task_of, task_over};
+ghost use Rattle.pooma_script.specs.Tests.{has_names};
+ghost use Rattle.pooma_script.specs.Trees.{axes_in, is_readable, names_fit, readings_in, unless_scalar};
+ghost use Rattle.pooma_script.specs.Views.{reading_of};
 ghost use Rattle.pooma_check.specs.Kept.{IsKept, known_of};
-ghost use Rattle.pooma_check.specs.Known.{is_array, is_stencil, named_at, stencil_named};
 ghost use Rattle.pooma_check.specs.Readings.{positions_of_first};
-ghost use Rattle.pooma_check.specs.Statements.{task_of, task_over};
-ghost use Rattle.pooma_check.specs.Tests.{has_names};
-ghost use Rattle.pooma_check.specs.Trees.{axes_in, is_readable, names_fit, readings_in, unless_scalar};
-ghost use Rattle.pooma_check.specs.Views.{reading_of};
 
-use crate::expression::axes_in;
 use crate::known::Known;
-use crate::names::is_scalar;
-use crate::reading::{Reading, reading_at, reading_of_name, stencil_at};
+use crate::lookup::{reading_at, reading_of_name, stencil_at};
 use pooma_parse::{RawExpr, RawLine, RawView};
+use pooma_script::expression::axes_in;
+use pooma_script::names::is_scalar;
+use pooma_script::reading::Reading;
 use pooma_text::Span;
 use std::alloc::{AllocError, Global};
 use std::marker::Model;
@@ -28,8 +29,8 @@ pub struct Task<'a> {
 }
 
 impl<'a> Model for Task<'a> {
+    ghost use Rattle.pooma_script.specs.Statements.{Task as Doing};
     ghost use Rattle.pooma_check.specs.Readings.{positions_for};
-    ghost use Rattle.pooma_check.specs.Statements.{Task as Doing};
     ghost use Rattle.pooma_stencil.specs.contracts.body.Body.{the_row};
     ghost use Rattle.std.specs.Coded.{codes};
 

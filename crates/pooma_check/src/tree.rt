@@ -1,21 +1,21 @@
 //! The expression of a line as the tree of a program.
 ghost use Rattle.std.specs.Prelude.{◌≡◌, ◌+◌, ◌≤◌, All, IsTrue, IfOk, None, Some};
 ghost use Rattle.pooma_domain.specs.Cells.{count_of};
+ghost use Rattle.pooma_script.specs.Known.{declared_in, is_array, is_stencil, named_at, stencil_named};
+ghost use Rattle.pooma_script.specs.Trees.{is_readable, leaf, tree_of, unless_scalar};
+ghost use Rattle.pooma_script.specs.Views.{reading_of, view_of};
 ghost use Rattle.pooma_check.specs.Kept.{IsKept, known_of};
-ghost use Rattle.pooma_check.specs.Known.{declared_in, is_array, is_stencil, named_at, stencil_named};
 ghost use Rattle.pooma_check.specs.Readings.{IsSoundReading};
 ghost use Rattle.pooma_check.specs.Seen.{CanMake};
-ghost use Rattle.pooma_check.specs.Trees.{is_readable, leaf, tree_of, unless_scalar};
-ghost use Rattle.pooma_check.specs.Views.{reading_of, view_of};
 ghost use Rattle.pooma_stencil.specs.Expansions.{expansion};
 
 use crate::cells::view_at;
 use crate::known::Known;
-use crate::names::Named;
-use crate::operators::op_of;
-use crate::reading::stencil_at;
+use crate::lookup::stencil_at;
 use pooma_expr::Expr;
 use pooma_parse::{RawExpr, RawView};
+use pooma_script::names::Named;
+use pooma_script::operators::op_of;
 use pooma_text::Span;
 use sqlite_items::Boxed;
 use std::alloc::{AllocError, Global};

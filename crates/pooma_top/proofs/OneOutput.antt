@@ -1,8 +1,8 @@
 -- For the same words and the same input there is one output, and no second one.
 use Rattle.std.proofs.Common.{◌≡◌, inl, inr, ⊎_elim, ℕ, List, [], refl, sym, ap, ◌∙◌}
 use Rattle.std.proofs.lemmas.Bool.{cases_eq}
-use Rattle.pooma_check.specs.Scripts.{Script, IsScript}
-use Rattle.pooma_check.proofs.Decided.{Or_not, same_list_or_not}
+use Rattle.pooma_script.specs.Scripts.{Script, IsScript}
+use Rattle.pooma_script.proofs.Decided.{Or_not, same_list_or_not}
 use Rattle.pooma_top.specs.declared.command.Command.{Command}
 use Rattle.pooma_top.specs.declared.command.Command.TheVariants.{RunOne, Check}
 use Rattle.pooma_top.specs.declared.status.Status.TheVariants.{Usage}

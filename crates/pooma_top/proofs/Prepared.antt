@@ -2,10 +2,10 @@
 use Rattle.std.proofs.Common.{◌≡◌, ℕ, ◌+◌, List, ◌++◌, length, Option, None, Some, IfSome, append-nil, ap, ◌∙◌, refl, arith, inl, length-append}
 use Rattle.std.specs.Io.KnownBytes.{Consumes, IsAtEnd}
 use Rattle.pooma_io.specs.Outside.{TakesMoreThan}
-use Rattle.pooma_check.specs.declared.cause.Cause.{Cause}
-use Rattle.pooma_check.specs.declared.cause.Cause.TheVariants as cause
-use Rattle.pooma_check.specs.declared.cause.LimitName.TheVariants as limit
-use Rattle.pooma_check.specs.Scripts.{Refused}
+use Rattle.pooma_script.specs.declared.cause.Cause.{Cause}
+use Rattle.pooma_script.specs.declared.cause.Cause.TheVariants as cause
+use Rattle.pooma_script.specs.declared.cause.LimitName.TheVariants as limit
+use Rattle.pooma_script.specs.Scripts.{Refused}
 use Rattle.pooma_top.specs.declared.command.Command.{Command}
 use Rattle.pooma_top.specs.Output.{IsAnswer, IsOutput, Output, refused_output, words_of}
 

@@ -1,9 +1,9 @@
 -- The texts of the causes for which scripts are refused.
 use Rattle.std.specs.Prelude.{ℕ, List, ◌++◌, codes}
-use Rattle.pooma_check.specs.declared.cause.Cause.{Cause}
-use Rattle.pooma_check.specs.declared.cause.Cause.TheVariants as cause
-use Rattle.pooma_check.specs.declared.cause.LimitName.{LimitName}
-use Rattle.pooma_check.specs.declared.cause.LimitName.TheVariants as limit
+use Rattle.pooma_script.specs.declared.cause.Cause.{Cause}
+use Rattle.pooma_script.specs.declared.cause.Cause.TheVariants as cause
+use Rattle.pooma_script.specs.declared.cause.LimitName.{LimitName}
+use Rattle.pooma_script.specs.declared.cause.LimitName.TheVariants as limit
 
 abbrev pub limit_text : LimitName → List ℕ
 limit_text limit.ScriptBytes = codes "script bytes"

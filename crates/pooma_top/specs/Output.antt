@@ -6,8 +6,8 @@ use Rattle.pooma_model.specs.Serial.{Run}
 use Rattle.pooma_model.specs.Texts.{fault_text}
 use Rattle.pooma_plain.specs.Ran.{serial_of}
 use Rattle.pooma_print.specs.Texts.{refusal_text}
-use Rattle.pooma_check.specs.declared.cause.Cause.{Cause}
-use Rattle.pooma_check.specs.Scripts.{Script, IsScript, Runs, Refused}
+use Rattle.pooma_script.specs.declared.cause.Cause.{Cause}
+use Rattle.pooma_script.specs.Scripts.{Script, IsScript, Runs, Refused}
 use Rattle.pooma_top.specs.declared.command.Command.{Command}
 use Rattle.pooma_top.specs.declared.command.Command.TheVariants.{RunOne, Check}
 use Rattle.pooma_top.specs.declared.output.Answer.{Answer}

@@ -1,8 +1,8 @@
 ghost use Rattle.std.specs.Prelude.{◌≡◌, ℕ, List};
 ghost use Rattle.pooma_model.specs.Order.{Programmed};
 ghost use Rattle.pooma_print.specs.Texts.{refusal_text};
-ghost use Rattle.pooma_check.specs.declared.cause.Cause.{Cause};
-ghost use Rattle.pooma_check.specs.Scripts.{IsScript, Refused, Runs};
+ghost use Rattle.pooma_script.specs.declared.cause.Cause.{Cause};
+ghost use Rattle.pooma_script.specs.Scripts.{IsScript, Refused, Runs};
 ghost use Rattle.pooma_top.specs.declared.command.Command.TheVariants.{RunOne};
 ghost use Rattle.pooma_top.specs.declared.status.Status.TheVariants as status;
 ghost use Rattle.pooma_top.specs.Causes.{cause_text};

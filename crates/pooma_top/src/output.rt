@@ -1,6 +1,6 @@
 //! What is written of a script.
 ghost use Rattle.std.specs.Prelude.{◌≡◌, IfOk};
-ghost use Rattle.pooma_check.specs.Scripts.{Runs};
+ghost use Rattle.pooma_script.specs.Scripts.{Runs};
 ghost use Rattle.pooma_top.specs.Output.{ended, output_of, refused_output, shown, IsAnswer, IsDefined};
 
 use crate::cause::cause_text;

@@ -1,9 +1,9 @@
 use Rattle.pooma_view.specs.Overlap.{IsOverlap}
 use Rattle.pooma_view.specs.Views.{Viewed}
 use Rattle.std.specs.Prelude.{flat_map}
+use Rattle.pooma_script.proofs.Heads.{flat_by_head, others}
+use Rattle.pooma_script.proofs.Offsets.{all_of_both}
 use Rattle.pooma_check.specs.Readings.{views_of_reading}
-use Rattle.pooma_check.proofs.Heads.{flat_by_head, others}
-use Rattle.pooma_check.proofs.Offsets.{all_of_both}
 use Rattle.pooma_check.proofs.apart.+all_are_apart.Goals as goal
 
 pub returns-in-len1-up : goal.returns-in-len1-up

@@ -3,7 +3,7 @@ use Rattle.std.specs.Prelude.{All}
 use Rattle.pooma_domain.specs.Cells.{Interval, IsOrdered}
 use Rattle.pooma_view.specs.Slots.{positions_of}
 use Rattle.pooma_stencil.specs.Stencils.{Stenciled, result_positions}
-use Rattle.pooma_check.specs.Views.{positions_left}
+use Rattle.pooma_script.specs.Views.{positions_left}
 use Rattle.pooma_check.proofs.apart.positions_read.Goals as goal
 
 pub unwrap-requires : goal.unwrap-requires

@@ -1,8 +1,8 @@
 use Rattle.pooma_field.specs.ShapeOf.{shape_of}
 use Rattle.std.proofs.Common.{◌∙◌, ap}
 use Rattle.pooma_model.specs.Declarations.{shape_at}
+use Rattle.pooma_script.specs.Known.{declared_in}
 use Rattle.pooma_check.specs.Kept.{known_of}
-use Rattle.pooma_check.specs.Known.{declared_in}
 use Rattle.pooma_check.proofs.Declaring.{subs_few}
 use Rattle.pooma_check.proofs.cells.is_readable.Goals as goal
 

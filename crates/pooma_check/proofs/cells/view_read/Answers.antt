@@ -2,14 +2,14 @@ use Rattle.std.proofs.Common.{◌≡◌, ◌∙◌, ℕ, List, ap, arith, subst,
 use Rattle.std.specs.Prelude.{map}
 use Rattle.pooma_view.specs.Views.{Viewed}
 use Rattle.pooma_view.specs.declared.slots.Slot.{Slot}
-use Rattle.pooma_check.specs.Views.{slot_of}
+use Rattle.pooma_script.specs.Views.{slot_of}
 use Rattle.pooma_field.specs.ShapeOf.{shape_of}
 use Rattle.pooma_view.specs.Slots.{positions_of}
 use Rattle.pooma_model.specs.Declarations.{shape_at}
 use Rattle.pooma_model.specs.Fit.{AreFew}
-use Rattle.pooma_check.specs.Ends.{IsWithin}
+use Rattle.pooma_script.specs.Ends.{IsWithin}
+use Rattle.pooma_script.specs.Known.{declared_in}
 use Rattle.pooma_check.specs.Kept.{known_of}
-use Rattle.pooma_check.specs.Known.{declared_in}
 use Rattle.pooma_check.proofs.Declaring.{subs_few}
 use Rattle.pooma_check.proofs.FewPlaces.{few_positions}
 use Rattle.pooma_check.proofs.cells.view_read.Goals as goal

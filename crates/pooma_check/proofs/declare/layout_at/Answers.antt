@@ -4,9 +4,9 @@ use Rattle.std.proofs.lemmas.Result.{IfOk-weaker}
 use Rattle.std.specs.Prelude.{slice_index_or}
 use Rattle.pooma_layout.specs.Axes.{CutAxis}
 use Rattle.pooma_text.specs.Lines.{text_at}
-use Rattle.pooma_check.specs.declared.names.Named.TheVariants.{Layout}
+use Rattle.pooma_script.specs.declared.names.Named.TheVariants.{Layout}
+use Rattle.pooma_script.specs.Known.{layout_named, named_at}
 use Rattle.pooma_check.specs.Kept.{known_of}
-use Rattle.pooma_check.specs.Known.{layout_named, named_at}
 use Rattle.pooma_check.proofs.declare.layout_at.Goals as goal
 
 pub unreachable-requires-in_default-get : goal.unreachable-requires-in_default-get

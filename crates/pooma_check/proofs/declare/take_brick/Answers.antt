@@ -2,8 +2,8 @@ use Rattle.std.proofs.Common.{◌≡◌, ◌≤◌, List, length, sym, ap, subst
 use Rattle.pooma_domain.specs.Cells.{Interval, cells_of}
 use Rattle.pooma_field.specs.Shapes.{Shaped}
 use Rattle.pooma_layout.specs.Patches.{total_of}
-use Rattle.pooma_check.specs.Layouts.{axes_of}
-use Rattle.pooma_check.proofs.Bricks.{total_of_brick}
+use Rattle.pooma_script.specs.Layouts.{axes_of}
+use Rattle.pooma_script.proofs.Bricks.{total_of_brick}
 use Rattle.pooma_check.proofs.declare.take_brick.Goals as goal
 
 pub note_array-requires-clause-few_cells : goal.note_array-requires-clause-few_cells

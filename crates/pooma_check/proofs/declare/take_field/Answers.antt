@@ -2,8 +2,8 @@ use Rattle.std.proofs.Common.{◌≡◌, ◌*◌, List, length, sym, ap, ◌∙�
 use Rattle.std.proofs.lemmas.List.{length-map}
 use Rattle.std.specs.Prelude.{map}
 use Rattle.pooma_layout.specs.Axes.{CutAxis}
-use Rattle.pooma_check.specs.Operators.{updater_of}
-use Rattle.pooma_check.proofs.Shapes.{by_axis_length}
+use Rattle.pooma_script.specs.Operators.{updater_of}
+use Rattle.pooma_script.proofs.Shapes.{by_axis_length}
 use Rattle.pooma_check.proofs.declare.take_field.Goals as goal
 
 pub shape_over-shape-requires : goal.shape_over-shape-requires

@@ -1,7 +1,7 @@
 use Rattle.std.proofs.Common.{◌↔◌, sym, subst}
 use Rattle.std.specs.Prelude.{IsTrue}
+use Rattle.pooma_script.specs.Tests.{IsWithin}
 use Rattle.pooma_check.specs.Kept.{known_of}
-use Rattle.pooma_check.specs.Tests.{IsWithin}
 use Rattle.pooma_check.proofs.limit.is_within.Goals as goal
 
 pub returns-in-Views : goal.returns-in-Views

@@ -1,6 +1,6 @@
+use Rattle.pooma_script.specs.Limits.{late_limits}
+use Rattle.pooma_script.specs.Tests.{IsWithin}
 use Rattle.pooma_check.specs.Kept.{known_of}
-use Rattle.pooma_check.specs.Limits.{late_limits}
-use Rattle.pooma_check.specs.Tests.{IsWithin}
 use Rattle.pooma_check.proofs.Cuttable.{action_can_be_cut}
 use Rattle.pooma_check.proofs.LimitOrder.{early_limits, found_in_front}
 use Rattle.pooma_check.proofs.limit.within_limits.Goals as goal

@@ -1,25 +1,9 @@
-use Rattle.std.proofs.Common.{refl, sym, subst}
-use Rattle.pooma_check.specs.Kept.{IsKnown, known_of}
-use Rattle.pooma_check.proofs.KnownAfter.{known_after}
-use Rattle.pooma_check.proofs.Outcomes.{limited, stops_early, stops_late}
+use Rattle.std.proofs.Common.{refl}
+use Rattle.pooma_check.specs.Kept.{known_of}
+use Rattle.pooma_check.proofs.Outcomes.{stops_early}
 use Rattle.pooma_check.proofs.line.read_form.Goals as goal
 
-pub returns-in-Some-clause-refused : goal.returns-in-Some-clause-refused
-returns-in-Some-clause-refused c =
-    let first = rw c.in-Some.is at c.in_ok-cause.ensures.cause in
-    rw c.refuse.ensures (refl, stops_early c.args.number (known_of c.args.known.now) c.args.text.now c.args.form.now c.in-Some.cause (first c.args.number))
-
-pub returns-in-Stops-clause-refused : goal.returns-in-Stops-clause-refused
-returns-in-Stops-clause-refused c =
-    let sound = rw c.in_default.is at c.in_ok-cause.ensures.sound in
-    let first = rw c.in-Stops.is at c.in_ok-name.ensures.stops in
-    rw c.refuse-in-Stops.ensures (refl, stops_late c.args.number (known_of c.args.known.now) c.args.text.now c.args.form.now c.in-Stops.name sound first)
-
-pub returns-in_ok-take-in-Goes-clause-kept : goal.returns-in_ok-take-in-Goes-clause-kept
-returns-in_ok-take-in-Goes-clause-kept c =
-    let goes = rw c.in-Goes.is at c.in_ok-name.ensures.goes in record {
-      known = subst IsKnown (sym c.in_ok-take-in-Goes.ensures.known)
-          (known_after c.args.number (known_of c.args.known.now) c.args.text.now c.args.form.now c.requires.kept.known
-          (limited c.args.number (known_of c.args.known.now) c.args.text.now c.args.form.now goes.0));
-      turns = c.in_ok-take-in-Goes.ensures.turns;
-    }
+pub returns-in-Err-clause-refused : goal.returns-in-Err-clause-refused
+returns-in-Err-clause-refused c =
+    let first = rw c.in-Err.is at c.in_ok-cause.ensures.cause in
+    rw c.refuse.ensures (refl, stops_early c.args.number (known_of c.args.known.now) c.args.text.now c.args.form.now c.in-Err.cause (first c.args.number))

@@ -2,9 +2,9 @@ use Rattle.std.proofs.Common.{◌≡◌, ℕ, ap, refl}
 use Rattle.std.proofs.lemmas.Result.{IfOk-weaker}
 use Rattle.std.specs.Prelude.{Err}
 use Rattle.pooma_parse.specs.Lines.{Spells}
-use Rattle.pooma_check.specs.declared.cause.Cause.{Cause}
+use Rattle.pooma_script.specs.declared.cause.Cause.{Cause}
+use Rattle.pooma_script.specs.Scripts.{Becomes, Stops, form_outcome, formless, spelt}
 use Rattle.pooma_check.specs.Kept.{known_of}
-use Rattle.pooma_check.specs.Scripts.{Becomes, Stops, form_outcome, formless, spelt}
 use Rattle.pooma_check.proofs.Refusals.{answered_too}
 use Rattle.pooma_check.proofs.line.read_line.Goals as goal
 

@@ -1,10 +1,10 @@
 use Rattle.std.proofs.Common.{◌≡◌, ◌+◌, ◌<◌, ℕ, get_or, length, sym, subst, arith}
 use Rattle.pooma_text.specs.declared.span.Span.{Span}
 use Rattle.pooma_text.specs.Lines.{lines_of, text_at}
-use Rattle.pooma_check.specs.declared.cause.Cause.{Cause}
+use Rattle.pooma_script.specs.declared.cause.Cause.{Cause}
+use Rattle.pooma_script.specs.Known.{nothing_known}
+use Rattle.pooma_script.specs.Scripts.{Becomes, Read, Refused, Stops, script_at_end}
 use Rattle.pooma_check.specs.Kept.{known_of}
-use Rattle.pooma_check.specs.Known.{nothing_known}
-use Rattle.pooma_check.specs.Scripts.{Becomes, Read, Refused, Stops, script_at_end}
 use Rattle.pooma_check.proofs.Along.{ends_here, goes_further, stops_here}
 use Rattle.pooma_check.proofs.Refusals.{refused_too}
 use Rattle.pooma_check.proofs.script.read_lines.Goals as goal

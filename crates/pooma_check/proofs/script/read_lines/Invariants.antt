@@ -1,8 +1,8 @@
 use Rattle.std.proofs.Common.{◌+◌, ◌<◌}
 use Rattle.pooma_text.specs.Lines.{lines_of}
+use Rattle.pooma_script.specs.Known.{nothing_known}
+use Rattle.pooma_script.specs.Scripts.{Read}
 use Rattle.pooma_check.specs.Kept.{IsKept, known_of}
-use Rattle.pooma_check.specs.Known.{nothing_known}
-use Rattle.pooma_check.specs.Scripts.{Read}
 use Rattle.pooma_check.proofs.Along.{ReadSoFar}
 use Rattle.pooma_check.proofs.script.read_lines.Given as goal
 

@@ -9,8 +9,8 @@ use Rattle.pooma_stencil.specs.Expansions.{IsPartOf, expansion, positions_on}
 use Rattle.pooma_stencil.specs.Stencils.{Stenciled}
 use Rattle.pooma_view.specs.Slots.{cell_named, positions_of}
 use Rattle.pooma_view.specs.Views.{Viewed}
+use Rattle.pooma_script.specs.Known.{declared_in}
 use Rattle.pooma_check.specs.Kept.{known_of}
-use Rattle.pooma_check.specs.Known.{declared_in}
 use Rattle.pooma_check.specs.Seen.{CanSee}
 use Rattle.pooma_check.proofs.Sights.{see_parts, see_whole}
 use Rattle.pooma_check.proofs.seen.see.Goals as goal

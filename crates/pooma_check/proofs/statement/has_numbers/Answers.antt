@@ -1,9 +1,9 @@
 use Rattle.std.proofs.Common.{◌≡◌, ◌∙◌, List, ap, subst, sym}
 use Rattle.std.specs.Prelude.{◌↔◌, All, IsTrue}
+use Rattle.pooma_script.specs.Statements.{task_of}
+use Rattle.pooma_script.specs.Tests.{HasPositions}
+use Rattle.pooma_script.specs.Views.{Reading}
 use Rattle.pooma_check.specs.Kept.{known_of}
-use Rattle.pooma_check.specs.Statements.{task_of}
-use Rattle.pooma_check.specs.Tests.{HasPositions}
-use Rattle.pooma_check.specs.Views.{Reading}
 use Rattle.pooma_check.proofs.OtherForms.{numbers_of_others}
 use Rattle.pooma_check.proofs.statement.has_numbers.Goals as goal
 

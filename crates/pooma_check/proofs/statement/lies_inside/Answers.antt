@@ -2,11 +2,11 @@ use Rattle.std.proofs.Common.{◌≡◌, ◌∙◌, List, None, Some, ap, subst,
 use Rattle.std.specs.Prelude.{◌↔◌, All, IsTrue, slice_get}
 use Rattle.pooma_parse.specs.declared.form.RawLine.{RawLine}
 use Rattle.pooma_parse.specs.declared.form.RawLine.TheVariants.{Assign}
+use Rattle.pooma_script.specs.Known.{declared_in}
+use Rattle.pooma_script.specs.Statements.{task_of}
+use Rattle.pooma_script.specs.Tests.{HasOwnAxes, HasPositions, LiesInside}
+use Rattle.pooma_script.specs.Views.{Reading, reading_of}
 use Rattle.pooma_check.specs.Kept.{known_of}
-use Rattle.pooma_check.specs.Known.{declared_in}
-use Rattle.pooma_check.specs.Statements.{task_of}
-use Rattle.pooma_check.specs.Tests.{HasOwnAxes, HasPositions, LiesInside}
-use Rattle.pooma_check.specs.Views.{Reading, reading_of}
 use Rattle.pooma_check.proofs.OtherForms.{inside_of_others}
 use Rattle.pooma_check.proofs.Sounding.{AreInside, readings_inside, readings_own, readings_taking}
 use Rattle.pooma_check.proofs.statement.lies_inside.Goals as goal

@@ -1,13 +1,13 @@
 use Rattle.std.proofs.Common.{◌≡◌, ◌∙◌, List, None, ◌∷◌, ap, refl, subst, sym}
 use Rattle.std.specs.Prelude.{◌↔◌, All, IsTrue}
 use Rattle.pooma_parse.specs.declared.form.RawLine.{RawLine}
+use Rattle.pooma_script.specs.Known.{declared_in}
+use Rattle.pooma_script.specs.Statements.{action_of, task_of}
+use Rattle.pooma_script.specs.Tests.{ReadsApartOf}
+use Rattle.pooma_script.specs.Trees.{readings_in}
+use Rattle.pooma_script.specs.Views.{Reading, reading_of, view_of}
 use Rattle.pooma_check.specs.Kept.{known_of}
-use Rattle.pooma_check.specs.Known.{declared_in}
 use Rattle.pooma_check.specs.Readings.{IsSoundReading}
-use Rattle.pooma_check.specs.Statements.{action_of, task_of}
-use Rattle.pooma_check.specs.Tests.{ReadsApartOf}
-use Rattle.pooma_check.specs.Trees.{readings_in}
-use Rattle.pooma_check.specs.Views.{Reading, reading_of, view_of}
 use Rattle.pooma_check.proofs.OtherForms.{apart_of_others}
 use Rattle.pooma_check.proofs.Overlaps.{assignment_apart}
 use Rattle.pooma_check.proofs.Sounding.{readings_sound}

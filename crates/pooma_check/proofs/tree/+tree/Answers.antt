@@ -1,8 +1,8 @@
 use Rattle.std.proofs.Common.{FitsSigned, rules, sym, w32, ◌∙◌, arith}
 use Rattle.std.proofs.lemmas.Int.{to_z-of_z}
 use Rattle.std.proofs.lemmas.Result.{IfOk-weaker}
+use Rattle.pooma_script.proofs.BodyForms.{depth-Abs, depth-Bin, depth-Neg, depth-Where}
 use Rattle.pooma_check.specs.Kept.{known_of}
-use Rattle.pooma_check.proofs.BodyForms.{depth-Abs, depth-Bin, depth-Neg, depth-Where}
 use Rattle.pooma_check.proofs.TreeForms.{make_abs, make_apply_reads, make_bin, make_index, make_neg, make_view_reads, make_where, tree_apply}
 use Rattle.pooma_check.proofs.tree.+tree.Goals as goal
 

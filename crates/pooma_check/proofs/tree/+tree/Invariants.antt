@@ -1,5 +1,5 @@
 use Rattle.std.proofs.Common.{◌+◌, ◌*◌}
-use Rattle.pooma_check.specs.Bodies.{depth_in}
+use Rattle.pooma_script.specs.Bodies.{depth_in}
 use Rattle.pooma_check.proofs.tree.+tree.Given as goal
 
 abbrev pub decreases-tree : goal.decreases-tree

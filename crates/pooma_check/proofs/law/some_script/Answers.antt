@@ -1,5 +1,0 @@
-use Rattle.pooma_check.proofs.SomeScript.{some_script_of}
-use Rattle.pooma_check.proofs.law.some_script.Goals as goal
-
-pub returns : goal.returns
-returns c = some_script_of c.some_reading.ensures

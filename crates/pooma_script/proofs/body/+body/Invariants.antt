@@ -1,0 +1,9 @@
+use Rattle.std.proofs.Common.{◌+◌, ◌*◌}
+use Rattle.pooma_script.specs.Bodies.{depth_in}
+use Rattle.pooma_script.proofs.body.+body.Given as goal
+
+abbrev pub decreases-body : goal.decreases-body
+decreases-body l = 2 * depth_in l.expr.now
+
+abbrev pub decreases-boxed : goal.decreases-boxed
+decreases-boxed l = 2 * depth_in l.expr.now + 1

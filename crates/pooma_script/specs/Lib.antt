@@ -1,0 +1,14 @@
+pub mod After
+pub mod Bodies
+pub mod Causes
+pub mod Ends
+pub mod Known
+pub mod Layouts
+pub mod Limits
+pub mod Operators
+pub mod Refusals
+pub mod Scripts
+pub mod Statements
+pub mod Tests
+pub mod Trees
+pub mod Views
