@@ -30,6 +30,21 @@ printf '%s' "$first" | ./pooma run 1 >/dev/full; check 'a full device' 5 '' $? '
 out=$(./pooma run 1 <&-); check 'standard input closed' 4 '' $? "$out"
 out=$(printf '%s' "$first" | { while IFS= read -r -n 1 -d '' byte; do printf '%s' "$byte"; done; } | ./pooma run 1)
 check 'one byte at a time' 0 '7 7 7 7' $? "$out"
+out=$(./pooma demo 1 2 1 <&-); check 'a demo, with standard input closed' 0 $'387072\n387072\n624640' $? "$out"
+out=$(./pooma make 1 200 | ./pooma run 1); check 'a demo and its script' 0 "$(./pooma demo 1 200 1)" $? "$out"
+out=$(./pooma make 1 0); check 'a made script of no lines' 1 '' $? "$out"
+
+# The longest made script: its length, as another program made it, and its time, as the best of five.
+least=1000000
+for _ in 1 2 3 4 5; do
+    begin=${EPOCHREALTIME/[.,]/}
+    out=$(crates/pooma/out/pooma make 2147483647 9000; echo "status $?")
+    took=$((${EPOCHREALTIME/[.,]/} - begin))
+    [ "$took" -ge "$least" ] || least=$took
+done
+check 'the longest made script' 0 "285914 status 0" 0 "$((${#out} - 8)) ${out##*$'\n'}"
+check 'its time, below a tenth of a second' 0 1 0 "$((least < 100000))"
+
 # status_of OUTPUT: the status that goes with an output, by its last line.
 status_of() {
     case ${1##*$'\n'} in

@@ -8,6 +8,8 @@ mod ends;
 #[cfg(test)]
 mod io;
 #[cfg(test)]
+mod maker;
+#[cfg(test)]
 mod parse;
 #[cfg(test)]
 mod refusals;

@@ -1,3 +1,4 @@
+mod Numerals
 mod OneOutput
 mod Prepared
 mod Statuses

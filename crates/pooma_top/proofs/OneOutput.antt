@@ -1,54 +1,177 @@
 -- For the same words and the same input there is one output, and no second one.
-use Rattle.std.proofs.Common.{◌≡◌, inl, inr, ⊎_elim, ℕ, List, [], refl, sym, ap, ◌∙◌}
-use Rattle.std.proofs.lemmas.Bool.{cases_eq}
+use Rattle.std.proofs.Common.{◌≡◌, inl, inr, ⊎_elim, ℕ, zero, suc, ◌≤◌, ◌<◌, List, [], ◌∷◌, arith, codes, decimal, refl, sym, subst, ap, ◌∙◌, ◌↔◌}
+use Rattle.std.proofs.lemmas.Bool.{cases_eq, cases_lt}
+use Rattle.std.proofs.lemmas.Fmt.{decimal_injective}
 use Rattle.pooma_script.specs.Scripts.{Script, IsScript}
-use Rattle.pooma_script.proofs.Decided.{Or_not, same_list_or_not}
+use Rattle.pooma_script.proofs.Decided.{Or_not, as_or_not, at_most_or_not, both_or_not, same_list_or_not, three_or_not}
 use Rattle.pooma_top.specs.declared.command.Command.{Command}
 use Rattle.pooma_top.specs.declared.command.Command.TheVariants.{RunOne, Check}
-use Rattle.pooma_top.specs.declared.status.Status.TheVariants.{Usage}
-use Rattle.pooma_top.specs.Output.{IsCommand, IsOutput, Output, output_of, words_of}
+use Rattle.pooma_top.specs.declared.command.Recipe.{Recipe}
+use Rattle.pooma_top.specs.declared.command.Task.{Task}
+use Rattle.pooma_top.specs.declared.command.Task.TheVariants.{Read, Make, Demo}
+use Rattle.pooma_top.specs.declared.status.Status.TheVariants.{Done, Usage}
+use Rattle.pooma_top.specs.Output.{IsAnswer, IsOutput, IsOutputOf, Output, output_of, script_of}
+use Rattle.pooma_top.specs.Tasks.{AsksFor, IsAllowed, IsCommand, IsInRange, words_of}
+use Rattle.pooma_top.proofs.Words.{AreNumbers, check_of, demo_of, make_of, run_of}
 
 same_text_or_not : (a b : List ℕ) → Or_not (a ≡ b)
 same_text_or_not = same_list_or_not cases_eq
 
--- words are no command where they are not those of either
-no_command : (words : List (List ℕ)) → (words ≡ words_of RunOne → ⊥) → (words ≡ words_of Check → ⊥) → (command : Command) → words ≡ words_of command → ⊥
-no_command words no_run no_check RunOne is = no_run is
-no_command words no_run no_check Check is = no_check is
+-- the word is a number from a least one on and below a bound
+record IsNumeral (word : List ℕ) (least bound : ℕ) : Type 0 where
+  number : ℕ
+  low : least ≤ number
+  below : number < bound
+  text : word ≡ decimal number
+
+numeral_or_not : (word : List ℕ) (least bound : ℕ) → Or_not (IsNumeral word least bound)
+numeral_or_not word least zero = inr (λ (n : IsNumeral word least 0). omega (arith, n.below))
+numeral_or_not word least (suc bound) =
+    ⊎_elim
+    (λ last. inl (record { number = bound; low = last.0; below = omega arith; text = last.1 }))
+    (λ not_last.
+    as_or_not
+    (λ (n : IsNumeral word least bound). record { number = n.number; low = n.low; below = omega (arith, n.below); text = n.text })
+    (λ (n : IsNumeral word least (suc bound)).
+    ⊎_elim
+    (λ below. record { number = n.number; low = n.low; below = below; text = n.text })
+    (λ above. let is : n.number ≡ bound = omega (arith, n.below) in absurd (not_last (omega (arith, n.low), n.text ∙ ap decimal is)))
+    (cases_lt n.number bound))
+    (numeral_or_not word least bound))
+    (both_or_not (at_most_or_not least bound) (same_text_or_not word (decimal bound)))
+
+numbers_or_not : (seed lines : List ℕ) → Or_not (AreNumbers seed lines)
+numbers_or_not seed lines =
+    as_or_not
+    (λ (both : IsNumeral seed 0 2147483648 × IsNumeral lines 1 9001).
+    record {
+      recipe = record { seed = both.0.number; lines = both.1.number };
+      range = (omega (arith, both.0.below), both.1.low, omega (arith, both.1.below));
+      seed_text = both.0.text;
+      lines_text = both.1.text;
+    })
+    (λ (numbers : AreNumbers seed lines). (
+      record { number = numbers.recipe.seed; low = omega arith; below = omega (arith, numbers.range.0); text = numbers.seed_text },
+      record { number = numbers.recipe.lines; low = numbers.range.1; below = omega (arith, numbers.range.2); text = numbers.lines_text },
+    ))
+    (both_or_not (numeral_or_not seed 0 2147483648) (numeral_or_not lines 1 9001))
+
+-- no task has no words, or more than four
+no_words : (task : Task) → [] ≡ words_of task → ⊥
+no_words (Read RunOne) is = cc
+no_words (Read Check) is = cc
+no_words (Make recipe) is = cc
+no_words (Demo recipe) is = cc
+
+no_more_words : (a b c d e : List ℕ) (more : List (List ℕ)) (task : Task) → a ∷ b ∷ c ∷ d ∷ e ∷ more ≡ words_of task → ⊥
+no_more_words a b c d e more (Read RunOne) is = cc
+no_more_words a b c d e more (Read Check) is = cc
+no_more_words a b c d e more (Make recipe) is = cc
+no_more_words a b c d e more (Demo recipe) is = cc
 
 command_or_not : (words : List (List ℕ)) → Or_not (IsCommand words)
-command_or_not words =
-    ⊎_elim
-    (λ run. inl (RunOne, run))
-    (λ no_run.
-    ⊎_elim
-    (λ check. inl (Check, check))
-    (λ no_check. inr (λ command. no_command words no_run no_check command.0 command.1))
-    (same_list_or_not same_text_or_not words (words_of Check)))
-    (same_list_or_not same_text_or_not words (words_of RunOne))
+command_or_not [] = inr (λ command. no_words command.0 command.1.1)
+command_or_not (a ∷ []) =
+    as_or_not
+    (λ (is : a ≡ codes "check"). (Read Check, (tt, ap (λ (w : List ℕ). w ∷ []) is)))
+    (λ command. check_of a command.0 command.1.1)
+    (same_text_or_not a (codes "check"))
+command_or_not (a ∷ b ∷ []) =
+    as_or_not
+    (λ (is : (a ≡ codes "run") × (b ≡ codes "1")). (Read RunOne, (tt, cc (is.0, is.1))))
+    (λ command. run_of a b command.0 command.1.1)
+    (both_or_not (same_text_or_not a (codes "run")) (same_text_or_not b (codes "1")))
+command_or_not (a ∷ b ∷ c ∷ []) =
+    as_or_not
+    (λ (is : (a ≡ codes "make") × AreNumbers b c). (Make is.1.recipe, (is.1.range, cc (is.0, is.1.seed_text, is.1.lines_text))))
+    (λ command. make_of a b c command.0 command.1.0 command.1.1)
+    (both_or_not (same_text_or_not a (codes "make")) (numbers_or_not b c))
+command_or_not (a ∷ b ∷ c ∷ d ∷ []) =
+    as_or_not
+    (λ (is : (a ≡ codes "demo") × AreNumbers b c × (d ≡ codes "1")). (Demo is.1.recipe, (is.1.range, cc (is.0, is.1.seed_text, is.1.lines_text, is.2))))
+    (λ command. demo_of a b c d command.0 command.1.0 command.1.1)
+    (three_or_not (same_text_or_not a (codes "demo")) (numbers_or_not b c) (same_text_or_not d (codes "1")))
+command_or_not (a ∷ b ∷ c ∷ d ∷ e ∷ more) = inr (λ command. no_more_words a b c d e more command.0 command.1.1)
 
--- the words of two commands differ
-same_command : (a b : Command) → words_of a ≡ words_of b → a ≡ b
-same_command RunOne RunOne same = refl
-same_command RunOne Check same = absurd (let no : ⊥ = cc in no)
-same_command Check RunOne same = absurd (let no : ⊥ = cc in no)
-same_command Check Check same = refl
+-- the words of two tasks differ
+same_recipe : (a b : Recipe) → IsInRange a → IsInRange b → decimal a.seed ≡ decimal b.seed → decimal a.lines ≡ decimal b.lines → a ≡ b
+same_recipe a b range_a range_b seeds lines =
+    let seed = decimal_injective a.seed b.seed (omega (arith, range_a.0)) (omega (arith, range_b.0)) seeds in
+    let line = decimal_injective a.lines b.lines (omega (arith, range_a.2)) (omega (arith, range_b.2)) lines in
+    λ i. record { seed = seed i; lines = line i }
 
--- words and an input have an output, where each input is a script
-pub some_output : ((bytes : List ℕ) → (script : Script) × IsScript bytes script) → (words : List (List ℕ)) (input : List ℕ) → (output : Output) × IsOutput words input output
-some_output script_of words input =
-    ⊎_elim
-    (λ command. let script = script_of input in (output_of script.0 command.0, inl (command.0, script.0, command.1, script.1, refl)))
-    (λ none. (record { bytes = []; status = Usage }, inr (none, refl)))
-    (command_or_not words)
+same_task : (a b : Task) → IsAllowed a → IsAllowed b → words_of a ≡ words_of b → a ≡ b
+same_task (Read RunOne) (Read RunOne) p q same = refl
+same_task (Read Check) (Read Check) p q same = refl
+same_task (Read RunOne) (Read Check) p q same = absurd (let no : ⊥ = cc in no)
+same_task (Read Check) (Read RunOne) p q same = absurd (let no : ⊥ = cc in no)
+same_task (Make a) (Make b) p q same =
+    let seeds : decimal a.seed ≡ decimal b.seed = cc in
+    let lines : decimal a.lines ≡ decimal b.lines = cc in
+    ap Make (same_recipe a b p q seeds lines)
+same_task (Demo a) (Demo b) p q same =
+    let seeds : decimal a.seed ≡ decimal b.seed = cc in
+    let lines : decimal a.lines ≡ decimal b.lines = cc in
+    ap Demo (same_recipe a b p q seeds lines)
+same_task (Make a) (Demo b) p q same = absurd (let no : ⊥ = cc in no)
+same_task (Demo a) (Make b) p q same = absurd (let no : ⊥ = cc in no)
+same_task (Read RunOne) b p q same = absurd (let no : ⊥ = cc in no)
+same_task (Read Check) b p q same = absurd (let no : ⊥ = cc in no)
+same_task a (Read RunOne) p q same = absurd (let no : ⊥ = cc in no)
+same_task a (Read Check) p q same = absurd (let no : ⊥ = cc in no)
 
--- and one at the most, where each input is one script at the most
-pub output_unique : ((bytes : List ℕ) (a b : Script) → IsScript bytes a → IsScript bytes b → a ≡ b)
-    → (words : List (List ℕ)) (input : List ℕ) (a b : Output) → IsOutput words input a → IsOutput words input b → a ≡ b
-output_unique one words input a b (inl p) (inl q) =
-    let command : p.0 ≡ q.0 = same_command p.0 q.0 (sym p.2 ∙ q.2) in
-    let script : p.1 ≡ q.1 = one input p.1 q.1 p.3 q.3 in
-    p.4 ∙ ap (λ (s : Script). output_of s p.0) script ∙ ap (output_of q.1) command ∙ sym q.4
-output_unique one words input a b (inl p) (inr q) = absurd (q.0 (p.0, p.2))
-output_unique one words input a b (inr p) (inl q) = absurd (p.0 (q.0, q.2))
-output_unique one words input a b (inr p) (inr q) = p.1 ∙ sym q.1
+-- the output of words that ask for a task is that of the task
+pub output_of_asked : (words : List (List ℕ)) (task : Task) (input : List ℕ) (output : Output) → AsksFor words task → IsOutput words input output
+    → IsOutputOf task input output
+output_of_asked words task input output asks (inl p) =
+    subst (λ (t : Task). IsOutputOf t input output) (same_task p.0 task p.1.0 asks.0 (sym p.1.1 ∙ asks.1)) p.2
+output_of_asked words task input output asks (inr p) = absurd (p.0 (task, asks))
+
+module _ (some : (bytes : List ℕ) → (script : Script) × IsScript bytes script) where
+  output_for : (task : Task) (input : List ℕ) → (output : Output) × IsOutputOf task input output
+  output_for (Read command) input = let script = some input in (output_of script.0 command, (script.0, script.1, refl))
+  output_for (Make recipe) input = (record { bytes = script_of recipe; status = Done }, refl)
+  output_for (Demo recipe) input = let script = some (script_of recipe) in (output_of script.0 RunOne, (script.0, script.1, refl))
+
+  -- words and an input have an output, where each input is a script
+  pub some_output : (words : List (List ℕ)) (input : List ℕ) → (output : Output) × IsOutput words input output
+  some_output words input =
+      ⊎_elim
+      (λ (command : IsCommand words). let output = output_for command.0 input in (output.0, inl (command.0, command.1, output.1)))
+      (λ (none : IsCommand words → ⊥). (record { bytes = []; status = Usage }, inr (none, refl)))
+      (command_or_not words)
+
+module _ (one : (bytes : List ℕ) (a b : Script) → IsScript bytes a → IsScript bytes b → a ≡ b) where
+  answer_unique : (command : Command) (bytes : List ℕ) (a b : Output) → IsAnswer command bytes a → IsAnswer command bytes b → a ≡ b
+  answer_unique command bytes a b p q = p.2 ∙ ap (λ (s : Script). output_of s command) (one bytes p.0 q.0 p.1 q.1) ∙ sym q.2
+
+  task_unique : (task : Task) (input : List ℕ) (a b : Output) → IsOutputOf task input a → IsOutputOf task input b → a ≡ b
+  task_unique (Read command) input a b p q = answer_unique command input a b p q
+  task_unique (Make recipe) input a b p q = p ∙ sym q
+  task_unique (Demo recipe) input a b p q = answer_unique RunOne (script_of recipe) a b p q
+
+  -- and one at the most, where each input is one script at the most
+  pub output_unique : (words : List (List ℕ)) (input : List ℕ) (a b : Output) → IsOutput words input a → IsOutput words input b → a ≡ b
+  output_unique words input a b (inl p) (inl q) =
+      let same : q.0 ≡ p.0 = same_task q.0 p.0 q.1.0 p.1.0 (sym q.1.1 ∙ p.1.1) in
+      task_unique p.0 input a b p.2 (subst (λ (t : Task). IsOutputOf t input b) same q.2)
+  output_unique words input a b (inl p) (inr q) = absurd (q.0 (p.0, p.1))
+  output_unique words input a b (inr p) (inl q) = absurd (p.0 (q.0, q.1))
+  output_unique words input a b (inr p) (inr q) = p.1 ∙ sym q.1
+
+-- a demo is a run of the made script
+pub demo_runs_made : (recipe : Recipe) (any input : List ℕ) (made output : Output) → IsInRange recipe → IsOutput (words_of (Make recipe)) any made
+    → IsOutput (words_of (Demo recipe)) input output ↔ IsOutput (words_of (Read RunOne)) made.bytes output
+demo_runs_made recipe any input made output range is_made =
+    let bytes : made.bytes ≡ script_of recipe = ap (λ (o : Output). o.bytes) (output_of_asked _ (Make recipe) any made (range, refl) is_made) in (
+      λ demo. inl (
+        Read RunOne,
+        (tt, refl),
+        subst (λ (b : List ℕ). IsAnswer RunOne b output) (sym bytes) (output_of_asked _ (Demo recipe) input output (range, refl) demo),
+      ),
+      λ run. inl (
+        Demo recipe,
+        (range, refl),
+        subst (λ (b : List ℕ). IsAnswer RunOne b output) bytes (output_of_asked _ (Read RunOne) made.bytes output (tt, refl) run),
+      ),
+    )

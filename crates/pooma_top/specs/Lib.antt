@@ -1,3 +1,4 @@
 pub mod Causes
 pub mod Output
 pub mod Status
+pub mod Tasks

@@ -1,5 +1,5 @@
 -- What the program answers: the status and the bytes that are written.
-use Rattle.std.specs.Prelude.{◌≡◌, ◌⊎◌, ℕ, ◌<◌, Bool, true, false, List, [], ◌∷◌, ◌++◌, length, codes, Option}
+use Rattle.std.specs.Prelude.{◌≡◌, ◌⊎◌, ℕ, ◌<◌, Bool, true, false, List, [], ◌∷◌, ◌++◌, length, codes, Option, Some}
 use Rattle.std.specs.Io.KnownBytes.{Appends}
 use Rattle.pooma_model.specs.Assigning.{Fault}
 use Rattle.pooma_model.specs.Serial.{Run}
@@ -8,21 +8,17 @@ use Rattle.pooma_plain.specs.Ran.{serial_of}
 use Rattle.pooma_print.specs.Texts.{refusal_text}
 use Rattle.pooma_script.specs.declared.cause.Cause.{Cause}
 use Rattle.pooma_script.specs.Scripts.{Script, IsScript, Runs, Refused}
+use Rattle.pooma_maker.specs.Script.{made_script}
 use Rattle.pooma_top.specs.declared.command.Command.{Command}
 use Rattle.pooma_top.specs.declared.command.Command.TheVariants.{RunOne, Check}
+use Rattle.pooma_top.specs.declared.command.Recipe.{Recipe}
+use Rattle.pooma_top.specs.declared.command.Task.{Task}
+use Rattle.pooma_top.specs.declared.command.Task.TheVariants.{Read, Make, Demo}
 use Rattle.pooma_top.specs.declared.output.Answer.{Answer}
 use Rattle.pooma_top.specs.declared.status.Status.{Status}
 use Rattle.pooma_top.specs.declared.status.Status.TheVariants as status
 use Rattle.pooma_top.specs.Causes.{cause_text}
-
--- the words of a command
-abbrev pub words_of : Command → List (List ℕ)
-words_of RunOne = codes "run" ∷ codes "1" ∷ []
-words_of Check = codes "check" ∷ []
-
--- the words are those of some command
-abbrev pub IsCommand : List (List ℕ) → Type 0
-IsCommand words = (command : Command) × (words ≡ words_of command)
+use Rattle.pooma_top.specs.Tasks.{AsksFor, IsCommand, MakesScript, words_of}
 
 pub record Output : Type 0 where
   pub bytes : List ℕ
@@ -46,11 +42,40 @@ output_of (Refused line why) command = refused_output line why
 output_of (Runs program) RunOne = run_output (serial_of program)
 output_of (Runs program) Check = record { bytes = codes "ok" ++ 10 ∷ []; status = status.Done }
 
--- The bytes and the status of a command on an input, and none of other words.
+-- the command's output for the script that the bytes are
+abbrev pub IsAnswer : Command → List ℕ → Output → Type 0
+IsAnswer command bytes output = (script : Script) × IsScript bytes script × (output ≡ output_of script command)
+
+-- the bytes of a made script
+abbrev pub script_of : Recipe → List ℕ
+script_of recipe = made_script recipe.seed recipe.lines
+
+-- The output of a task: what its command makes of the input; or the made script, or what `run` makes of that one.
+abbrev pub IsOutputOf : Task → List ℕ → Output → Type 0
+IsOutputOf (Read command) input output = IsAnswer command input output
+IsOutputOf (Make recipe) input output = output ≡ record { bytes = script_of recipe; status = status.Done }
+IsOutputOf (Demo recipe) input output = IsAnswer RunOne (script_of recipe) output
+
+-- The bytes and the status for words and an input, and no bytes for other words.
 abbrev pub IsOutput : List (List ℕ) → List ℕ → Output → Type 0
 IsOutput words input output =
-    ((command : Command) × (script : Script) × (words ≡ words_of command) × IsScript input script × (output ≡ output_of script command))
-    ⊎ ((IsCommand words → ⊥) × (output ≡ record { bytes = []; status = status.Usage }))
+    ((task : Task) × AsksFor words task × IsOutputOf task input output) ⊎ ((IsCommand words → ⊥) × (output ≡ record { bytes = []; status = status.Usage }))
+
+-- the input that a task is given: what is left to read, where that is told; a made script is the same whatever is left
+abbrev pub IsGiven : Task → Option (List ℕ) → List ℕ → Type 0
+IsGiven (Read command) left input = left ≡ Some input
+IsGiven (Make recipe) left input = Unit {0}
+IsGiven (Demo recipe) left input = Unit {0}
+
+-- the input that words are given
+abbrev pub IsInput : List (List ℕ) → Option (List ℕ) → List ℕ → Type 0
+IsInput words left input = (left ≡ Some input) ⊎ MakesScript words
+
+-- for these words this command is done with these bytes: with what is read, or, as a run, with a made script
+abbrev pub IsDoneWith : List (List ℕ) → List ℕ → Command → List ℕ → Type 0
+IsDoneWith words input command bytes =
+    ((words ≡ words_of (Read command)) × (bytes ≡ input))
+    ⊎ ((recipe : Recipe) × (command ≡ RunOne) × (words ≡ words_of (Demo recipe)) × (bytes ≡ script_of recipe))
 
 -- the text of a fault is the last line
 pub record EndsInFault (bytes : List ℕ) : Type 0 where
@@ -77,7 +102,3 @@ IsDefined other = ⊥
 -- an answer with its bytes
 abbrev pub shown : Answer → Output
 shown answer = record { bytes = answer.text.items; status = answer.status }
-
--- the command's output for some script that the bytes are
-abbrev pub IsAnswer : Command → List ℕ → Output → Type 0
-IsAnswer command bytes output = (script : Script) × IsScript bytes script × (output ≡ output_of script command)

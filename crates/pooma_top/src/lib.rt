@@ -7,11 +7,13 @@
 mod cause;
 mod command;
 mod law;
+mod made;
+mod number;
 mod output;
 mod status;
 mod top;
 
-pub use law::{one_output, outputs_by_status};
+pub use law::{demos_run_made_scripts, one_output, outputs_by_status};
 pub use pooma_run::{First, Picker};
 pub use status::Status;
 pub use top::top_one;

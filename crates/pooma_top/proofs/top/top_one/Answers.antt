@@ -1,7 +1,11 @@
-use Rattle.pooma_top.specs.Output.{AppendsLess, shown}
-use Rattle.pooma_top.proofs.Prepared.{some_output}
+use Rattle.std.proofs.Common.{map, string_bytes}
+use Rattle.pooma_top.specs.Output.{shown}
+use Rattle.pooma_top.proofs.Prepared.{output_asked}
 use Rattle.pooma_top.proofs.top.top_one.Goals as goal
 
 pub returns-in-Ok-clause-cut_short : goal.returns-in-Ok-clause-cut_short
-returns-in-Ok-clause-cut_short g c = λ short.
-    some_output _ _ _ (shown c.in-Ok.answer) (λ o. AppendsLess _ _ o.bytes) c.in-Some.ensures.found c.in-Ok.ensures.answer (c.deliver.ensures.cut_short short)
+returns-in-Ok-clause-cut_short g c short input from = (
+  shown c.in-Ok.answer,
+  output_asked _ c.in-Some.task _ _ c.in-Some.ensures.found c.in-Ok.ensures.answer input from,
+  c.deliver.ensures.cut_short short,
+)
