@@ -2,7 +2,7 @@
 use Rattle.std.proofs.Common.{◌≡◌, ◌<◌, ◌≤◌, ◌^◌, ℕ, List, [], ◌∷◌, length, map, get_or, arith, String, Global, string_bytes, subst}
 use Rattle.std.specs.Str.Parse.{IsNumeral, digits_value, without_leading_plus}
 use Rattle.pooma_bench.specs.declared.command.Command.{Command}
-use Rattle.pooma_bench.specs.declared.command.Command.TheVariants.{Machine, Eval}
+use Rattle.pooma_bench.specs.declared.command.Command.TheVariants.{Machine, Eval, Desk}
 use Rattle.pooma_bench.specs.Command.{IsAskedBy}
 
 -- one word is this one
@@ -29,3 +29,4 @@ no_number words name text (Machine entries) are none asked =
     let most = asked.most in
     none (subst (λ t. IsNumeral 10 (without_leading_plus t) × (digits_value 10 (without_leading_plus t) < 2 ^ 32)) same (asked.numeral, omega arith))
 no_number words name text Eval are none asked = absurd cc
+no_number words name text Desk are none asked = absurd cc

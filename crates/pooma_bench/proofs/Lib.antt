@@ -2,3 +2,4 @@ pub mod Asked
 pub mod Objects
 pub mod Requests
 pub mod Releases
+pub mod Crosses

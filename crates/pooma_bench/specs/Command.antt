@@ -3,7 +3,7 @@ use Rattle.std.specs.Prelude.{◌≡◌, ◌<◌, ◌≤◌, ℕ, List, [], ◌�
 use Rattle.std.specs.Str.Parse.{IsNumeral, digits_value, without_leading_plus}
 use Rattle.pooma_bench.specs.declared.window.TheConstants.{MOST_ENTRIES}
 use Rattle.pooma_bench.specs.declared.command.Command.{Command}
-use Rattle.pooma_bench.specs.declared.command.Command.TheVariants.{Machine, Eval}
+use Rattle.pooma_bench.specs.declared.command.Command.TheVariants.{Machine, Eval, Desk}
 
 -- the words ask for a window of so many entries
 pub record AsksForWindow (words : List (List ℕ)) (entries : ℕ) : Type 0 where
@@ -18,3 +18,4 @@ pub record AsksForWindow (words : List (List ℕ)) (entries : ℕ) : Type 0 wher
 abbrev pub IsAskedBy : List (List ℕ) → Command → Type 0
 IsAskedBy words (Machine entries) = AsksForWindow words entries
 IsAskedBy words Eval = words ≡ codes "eval" ∷ []
+IsAskedBy words Desk = words ≡ codes "desk" ∷ []

@@ -12,6 +12,8 @@ pub enum Command {
     },
     /// Expressions evaluated over many positions.
     Eval,
+    /// Works through a desk by one thread and by several.
+    Desk,
 }
 
 impl Command {
@@ -34,6 +36,7 @@ impl Command {
                 Some(Command::Machine { entries })
             }
             [name] if name.as_str() == "eval" => Some(Command::Eval),
+            [name] if name.as_str() == "desk" => Some(Command::Desk),
             _ => None,
         }
     }

@@ -8,6 +8,7 @@ use std::{env, io};
 use window::MOST_ENTRIES;
 
 mod command;
+mod desk;
 mod eval;
 mod increment;
 mod measure;
@@ -25,9 +26,10 @@ fn main(rt: HostRuntime) -> io::Result<ExitCode> {
             eprintln!(rt; "{times}")?;
         }
         Some(Command::Eval) => eval::report(&rt)?,
+        Some(Command::Desk) => desk::report(&rt)?,
         None => {
             eprintln!(rt;
-                "usage: pooma_bench machine N, where N is a number from 1 to {MOST_ENTRIES}, or pooma_bench eval"
+                "usage: pooma_bench machine N, where N is a number from 1 to {MOST_ENTRIES}, pooma_bench eval, or pooma_bench desk"
             )?;
             return Ok(ExitCode::from(USAGE));
         }

@@ -27,3 +27,9 @@ returns-in-len1-clause-found c =
     let words = one_word _ _ c.in-len1.len_at_least c.in-len1.len_below c.name-item.is in
     let name : c.as_str.result.now ≡ codes "eval" = search (rules, bytes_eq-Decides) in
     words ∙ cc (name, c.as_str.ensures.value)
+
+pub returns-in-len1-2-clause-found : goal.returns-in-len1-2-clause-found
+returns-in-len1-2-clause-found c =
+    let words = one_word _ _ c.in-len1.len_at_least c.in-len1.len_below c.name-item-then-words-lt2.is in
+    let name : c.as_str-then-words-lt2.result.now ≡ codes "desk" = search (rules, bytes_eq-Decides) in
+    words ∙ cc (name, c.as_str-then-words-lt2.ensures.value)
