@@ -28,9 +28,9 @@ use pooma_piece::{pieces_fit, pieces_make_words};
 use pooma_store::{numbers_of_owners, objects_change};
 
 /// The fills that an action needs, as a law for proofs: done one after another on objects that stand for a world, where each
-/// field that is not fresh is marked, they make each field fresh of which the action reads or prints an external cell, the
-/// target's old value with it where there is a mask. The objects stand for the same world, what was fresh stays so, and no fill
-/// answers a fault. Numbers of 64 bits stay such.
+/// field that is not fresh is marked, they make each field fresh of which the action reads or prints an external cell. So the
+/// whole value of an assignment can be read, in which a mask leaves the target's own numbers. The objects stand for the same
+/// world, what was fresh stays so, and no fill answers a fault. Numbers of 64 bits stay such.
 pub fn fills_make_fresh()
     ensures objects { (store : Stored) (stale : Staled) (number : ℕ) (does : Action) (objects : List Numbered) (world : World)
         → CanFill store stale objects world → AreObjects store.layouts (filled store stale number does objects).objects }

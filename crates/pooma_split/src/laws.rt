@@ -50,8 +50,8 @@ use pooma_store::{numbers_of_owners, objects_change};
 /// does, and the objects stand for the world that it becomes; fields that are not its target are then as fresh as before. Of a
 /// reduction: either pieces answer a fault, and the earliest of theirs is the reduction's, or each answers what the reduction
 /// keeps of the numbers at its positions, one for each, and these numbers, box after box in any order, come to its result or to
-/// its fault at the sum. They are numbers of 64 bits where those of the objects, of the scalars and of its literals are. It
-/// leaves the objects as they are. Those numbers of the objects stay of 64 bits behind every action.
+/// its fault at the sum. They are numbers of 64 bits where those of the objects, of the scalars and of its literals are. A
+/// reduction leaves the objects as they are, and behind every action they have numbers of 64 bits where they had such before.
 pub fn statements_in_pieces()
     ensures assigns { (declared : Declared) (objects : List Numbered) (world : World) (number : ℕ) (target : Viewed) (value : Expr) (mask : Option Expr)
         → IsFit declared (action.Assign target value mask)
