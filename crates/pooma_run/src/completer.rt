@@ -54,4 +54,9 @@ pub trait Completer<W: Work> {
         ensures outcomes { IfOk result (λ done. done.outcomes.items ≡ (ser W.meaning (map arc_value works.items) (contents W.content objects.items)).outcomes) }
         ensures told { OnOk result (TellsOne (told self.old) (told self.new) (λ window. tells (map arc_value works.items) window self.old self.new)) }
         ensures err { OnErr result (((told self.new ≡ told self.old) × stops (map arc_value works.items) self.old self.new) ⊎ TellsOne (told self.old) (told self.new) (λ window. tells (map arc_value works.items) window self.old self.new)) };
+
+    // What stays over one window stays over many, and over none.
+    ghost stays_itself: { (c : Self) → stays c c };
+
+    ghost stays_on: { (a b c : Self) → stays a b → stays b c → stays a c };
 }

@@ -35,6 +35,8 @@ impl<W: Work, P: Picker, J: Journal<W>> Completer<W> for OneThread<'_, P, J>
 where
     W::Outcome: Copy,
 {
+    ghost use Rattle.std.proofs.Common.{◌∙◌, refl};
+
     ghost told = { λ c. J.told c.journal.now };
 
     ghost stays = { λ old new. (new.picker.ghost_name ≡ old.picker.ghost_name) × (new.journal.ghost_name ≡ old.journal.ghost_name) };
@@ -42,6 +44,10 @@ where
     ghost tells = { λ works window old new. IsPickedFrom W.meaning works window (P.asked old.picker.now) (P.asked new.picker.now) };
 
     ghost stops = { λ works old new. IsStopped W.meaning works (P.asked old.picker.now) (P.asked new.picker.now) };
+
+    ghost stays_itself = { λ c. (refl, refl) };
+
+    ghost stays_on = { λ a b c one two. (two.0 ∙ one.0, two.1 ∙ one.1) };
 
     fn complete(
         &mut self,
