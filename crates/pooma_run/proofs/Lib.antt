@@ -8,3 +8,5 @@ pub mod Turns
 mod Joined
 mod Worked
 pub mod Telling
+pub mod Earliest
+pub mod Passing

@@ -3,3 +3,4 @@ pub mod Windows
 pub mod Running
 pub mod Steps
 pub mod Turns
+pub mod Outcomes

@@ -9,6 +9,7 @@ pub use picker::{First, Picker};
 
 mod choices;
 mod completer;
+mod faults;
 mod law;
 mod list_picker;
 mod one_thread;
