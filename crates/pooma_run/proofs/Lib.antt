@@ -10,3 +10,4 @@ mod Worked
 pub mod Telling
 pub mod Earliest
 pub mod Passing
+pub mod Merging

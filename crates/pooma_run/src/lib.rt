@@ -10,6 +10,7 @@ pub use picker::{First, Picker};
 mod choices;
 mod completer;
 mod faults;
+mod gather;
 mod law;
 mod list_picker;
 mod one_thread;
