@@ -11,3 +11,4 @@ pub mod Telling
 pub mod Earliest
 pub mod Passing
 pub mod Merging
+pub mod Declared

@@ -4,3 +4,4 @@ pub mod Running
 pub mod Steps
 pub mod Turns
 pub mod Outcomes
+pub mod Plan

@@ -16,3 +16,4 @@ mod list_picker;
 mod one_thread;
 mod picker;
 mod window;
+mod works;
