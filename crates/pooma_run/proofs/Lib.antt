@@ -12,3 +12,5 @@ pub mod Earliest
 pub mod Passing
 pub mod Merging
 pub mod Declared
+pub mod Forms
+pub mod Untold

@@ -12,6 +12,7 @@ mod completer;
 mod faults;
 mod gather;
 mod law;
+mod lending;
 mod list_picker;
 mod one_thread;
 mod picker;
