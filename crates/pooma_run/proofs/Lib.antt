@@ -14,3 +14,4 @@ pub mod Merging
 pub mod Declared
 pub mod Forms
 pub mod Untold
+pub mod Alike

@@ -5,3 +5,4 @@ pub mod Steps
 pub mod Turns
 pub mod Outcomes
 pub mod Plan
+pub mod Showing

@@ -2,6 +2,7 @@
 #![tactic(auto)]
 
 pub use completer::{Completed, Completer};
+pub use ended::Ended;
 pub use law::windows_of_steps;
 pub use list_picker::ListPicker;
 pub use one_thread::OneThread;
@@ -9,6 +10,7 @@ pub use picker::{First, Picker};
 
 mod choices;
 mod completer;
+mod ended;
 mod faults;
 mod gather;
 mod law;
@@ -16,5 +18,6 @@ mod lending;
 mod list_picker;
 mod one_thread;
 mod picker;
+mod shown;
 mod window;
 mod works;
