@@ -1,50 +1,208 @@
 #!/usr/bin/env bash
-# How long the program takes for 20 steps of heat on a plate of 1024 x 1024 cells: two statements a step, of which one has
-# five reads and the other one. Prints the seconds, and those without the steps. Fails where the sum is not that of the plate
-# at the end, or where the steps take more than a minute.
+# What scripts of several kinds cost on one worker: seconds and the most memory of each run, and beside them the seconds of
+# the same statements in NumPy and how many times those the program takes, where python3-numpy is installed. Fails where a
+# script costs more than its bar, or where it prints another sum than it has to.
+#
+# bench/run.sh [PART]: with a number here each repeat has only that part of its turns, for a short try.
 set -eu
 cd "$(dirname "$0")/.."
-steps=20
-most=60
-last=2371025923 # the sum at the end, as another program found it
+part=${1:-1}
+steps=$((20 / part > 0 ? 20 / part : 1)) turns=$((200000 / part)) windows=$((100000 / part))
+kept=$(mktemp -d)
+trap 'rm -rf "$kept"' EXIT
+python='' failed=0
+for one in python3 /usr/bin/python3; do
+    if "$one" -c 'import numpy' 2>/dev/null; then python=$one && break; fi
+done
 
-# script STEPS
-script() {
+# cost COMMAND..: runs it on standard input, and keeps its output, its seconds and its most memory in kilobytes.
+cost() {
+    /usr/bin/time -f '%e %M' -o "$kept/cost" "$@" >"$kept/output"
+    read -r seconds memory <"$kept/cost"
+    output=$(cat "$kept/output")
+}
+
+# run NAME: the script of this name, and its NumPy program.
+run() {
+    cost ./pooma run 1 < <("$1")
+    printf '%s: %s s, %s kB' "$title" "$seconds" "$memory"
+    [ -z "$python" ] || beside "$1"
+    echo
+}
+
+# The seconds that NumPy itself takes, without its start.
+beside() {
+    local sum
+    sum=$("$python" - 2>"$kept/numpy" < <(
+        echo 'import sys, time, numpy as np'
+        echo 'begin = time.perf_counter()'
+        "numpy_$1"
+        echo 'print(f"{time.perf_counter() - begin:.3f}", file=sys.stderr)'
+    ))
+    printf '; NumPy %s s, ratio %s' "$(cat "$kept/numpy")" "$(quotient "$seconds" "$(cat "$kept/numpy")")"
+    [ "$output" = "$sum" ] || fail "prints $output, and NumPy $sum"
+}
+
+fail() {
+    echo "$title: $1" >&2
+    failed=1
+}
+
+# within VALUE BAR UNIT: prints the value, and notes where it is past the bar.
+within() {
+    echo "    $1 $3; the bar is $2"
+    awk -v value="$1" -v bar="$2" 'BEGIN { exit value > bar }' || fail "$1 $3, and may take $2"
+}
+
+quotient() { awk -v a="$1" -v b="$2" 'BEGIN { if (b > 0) printf "%.2f", a / b; else printf "none" }'; }
+
+# A step of heat has two statements, of which one has five reads and the other one.
+heat() {
     cat <<END
 layout Plate (0:1023,0:1023) blocks (4,4) external (1,1)
 field U on Plate faces constant 1000000, constant 0, reflect, reflect
 array V on Plate
 U = (index(0) * 31 + index(1) * 17) % 1000
-END
-    if [ "$1" -gt 0 ]; then
-        cat <<END
-repeat $1
+repeat $steps
 V = U + (U[-1:1022,0:1023] + U[1:1024,0:1023] + U[0:1023,-1:1022] + U[0:1023,1:1024] - 4 * U) / 5
 U = V
 end
+scalar total = sum(U)
+print total
 END
-    fi
-    printf 'scalar total = sum(U)\nprint total\n'
 }
 
-# seconds STEPS: the time, and what was printed
-seconds() {
-    local begin end out
-    begin=$(date +%s%N)
-    out=$(script "$1" | ./pooma run 1)
-    end=$(date +%s%N)
-    printf '%s.%03d %s\n' "$(((end - begin) / 1000000000))" "$(((end - begin) / 1000000 % 1000))" "$out"
+numpy_heat() {
+    cat <<END
+x, y = np.indices((1024, 1024))
+u = (x * 31 + y * 17) % 1000
+around = np.zeros((1026, 1026), np.int64)
+for _ in range($steps):
+    around[1:-1, 1:-1] = u
+    around[0], around[-1], around[1:-1, 0], around[1:-1, -1] = 1000000, 0, u[:, 0], u[:, -1]
+    change = around[:-2, 1:-1] + around[2:, 1:-1] + around[1:-1, :-2] + around[1:-1, 2:] - 4 * u
+    v = u + np.sign(change) * (np.abs(change) // 5)
+    u = v.copy()
+print(u.sum())
+END
 }
 
-./pooma run 1 </dev/null # builds the program where it has to be
-read -r without at_first <<<"$(seconds 0)"
-read -r with at_last <<<"$(seconds $steps)"
-echo "$steps steps on 1024 x 1024 cells: $with seconds, of which $without without the steps (sums $at_first and $at_last)"
-if [ "$at_last" != "$last" ]; then
-    echo "the sum is another one" >&2
-    exit 1
-fi
-if [ "${with%.*}" -ge "$most" ]; then
-    echo "it may take $most seconds" >&2
-    exit 1
-fi
+# Many statements on a square of this side, in 16 blocks.
+square() {
+    cat <<END
+layout Square (0:$((side - 1)),0:$((side - 1))) blocks (4,4)
+array A on Square
+repeat $turns
+A += 1
+end
+scalar total = sum(A)
+print total
+END
+}
+
+numpy_square() {
+    cat <<END
+a = np.zeros(($side, $side), np.int64)
+for _ in range($turns):
+    a += 1
+print(a.sum())
+END
+}
+
+# One reduction: rows and columns cut it into a part for each cell.
+parts() {
+    cat <<END
+layout Rows (0:249,0:239) blocks (250,1)
+layout Columns (0:249,0:239) blocks (1,240)
+array A on Rows
+array B on Columns
+A = index(0)
+B = index(1)
+scalar total = sum(A * B)
+print total
+END
+}
+
+numpy_parts() {
+    cat <<END
+a, b = np.indices((250, 240))
+print((a * b).sum())
+END
+}
+
+# A window for each scalar, beside so many arrays of so many patches that no window asks for.
+scalars() {
+    echo "layout Aside (0:255) blocks ($patches)"
+    for number in $(seq "$arrays"); do echo "array A$number on Aside"; done
+    cat <<END
+scalar total = 0
+repeat $windows
+scalar total = total + 1
+end
+print total
+END
+}
+
+numpy_scalars() {
+    cat <<END
+total = np.int64(0)
+for _ in range($windows):
+    total = total + 1
+print(total)
+END
+}
+
+# The greatest array that a script may have.
+greatest() {
+    cat <<END
+layout Most (0:2047,0:2047) blocks (4,4)
+array A on Most
+A = index(0) * index(1)
+scalar total = sum(A)
+print total
+END
+}
+
+numpy_greatest() {
+    cat <<END
+x, y = np.indices((2048, 2048))
+a = x * y
+print(a.sum())
+END
+}
+
+cost ./pooma run 1 </dev/null # builds the program where it has to be
+cost ./pooma run 1 </dev/null
+own=$memory
+echo "an empty script: $seconds s, $memory kB"
+
+title="$steps steps of heat on 1024 x 1024 cells in 16 blocks"
+run heat
+within "$seconds" 60 seconds
+# as another program found it
+[ $steps -ne 20 ] || [ "$output" = 2371025923 ] || fail "the sum is $output"
+# two arrays with a guard layer around
+within "$(quotient $((memory - own)) $((2 * 1026 * 1026 * 8 / 1024)))" 2 'times the memory of the cells'
+
+for side in 64 16; do
+    title="$turns statements on $side x $side cells in 16 blocks"
+    run square
+    within "$(quotient "${seconds}e6" $((turns * 16)))" $((side == 64 ? 10 : 4)) 'microseconds an iterate'
+done
+
+title='a reduction of 60,000 parts'
+run parts
+within "$(quotient "${seconds}e6" 60000)" 6 'microseconds an iterate'
+echo "    $(quotient $(((memory - own) * 1024)) 60000) bytes an iterate"
+
+patches=1 arrays=1 title="$windows scalars beside one array of one patch"
+run scalars
+few=$seconds
+patches=256 arrays=16 title="$windows scalars beside 16 arrays of 256 patches"
+run scalars
+within "$(quotient "$(awk -v a="$seconds" -v b="$few" 'BEGIN { print (a - b) * 1e9 }')" $((windows * 4095)))" 30 'nanoseconds an object'
+
+title='the greatest array'
+run greatest
+within "$(quotient $((memory - own)) $((2048 * 2048 * 8 / 1024)))" 2 'times the memory of the cells'
+exit $failed
