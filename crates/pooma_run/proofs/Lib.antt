@@ -7,11 +7,22 @@ pub mod Growth
 pub mod Turns
 mod Joined
 mod Worked
-pub mod Telling
 pub mod Earliest
-pub mod Passing
-pub mod Merging
-pub mod Declared
 pub mod Forms
-pub mod Untold
 pub mod Alike
+pub mod Merging
+pub mod Passing
+pub mod Declared
+pub mod Untold
+pub mod Behind
+pub mod Standing
+pub mod Adding
+pub mod Stepping
+pub mod Concluding
+pub mod Opening
+pub mod Telling
+pub mod Faulting
+pub mod Performing
+pub mod Performed
+pub mod Reduced
+pub mod Beginning

@@ -24,6 +24,14 @@ pub on_err_so : {X E P Q : Type 0} (r : Result X E) → (P → Q) → OnErr r P 
 on_err_so (Ok x) so holds = tt
 on_err_so (Err e) so holds = so holds
 
+pub on_ok_so : {X E P Q : Type 0} (r : Result X E) → (P → Q) → OnOk r P → OnOk r Q
+on_ok_so (Ok x) so holds = so holds
+on_ok_so (Err e) so holds = tt
+
+-- what holds of two values holds of what they are called elsewhere
+pub at_ends : {A B : Type 0} (P : A → B → Type 0) (a same : A) (b like : B) → a ≡ same → b ≡ like → P same like → P a b
+at_ends P a same b like one two holds = subst (λ x. P x b) (sym one) (subst (P same) (sym two) holds)
+
 pub followed_by_none : (known : Option (List Question)) → followed_by known [] ≡ known
 followed_by_none None = refl
 followed_by_none (Some questions) = ap Some (append-nil questions)

@@ -2,7 +2,10 @@ pub mod Questions
 pub mod Windows
 pub mod Running
 pub mod Steps
+pub mod Plan
 pub mod Turns
 pub mod Outcomes
-pub mod Plan
 pub mod Showing
+pub mod Underway
+pub mod Told
+pub mod Gathered
