@@ -26,3 +26,4 @@ pub mod Performing
 pub mod Performed
 pub mod Reduced
 pub mod Beginning
+pub mod Seated

@@ -9,3 +9,4 @@ pub mod Showing
 pub mod Underway
 pub mod Told
 pub mod Gathered
+pub mod Workers

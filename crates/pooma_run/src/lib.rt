@@ -8,6 +8,7 @@ pub use list_picker::ListPicker;
 pub use one_thread::OneThread;
 pub use one_run::run_one;
 pub use picker::{First, Picker};
+pub use sharing::share_out;
 
 mod choices;
 mod completer;
@@ -22,6 +23,8 @@ mod list_picker;
 mod one_run;
 mod one_thread;
 mod picker;
+mod places;
+mod sharing;
 mod shown;
 mod window;
 mod works;

@@ -66,8 +66,8 @@ where
     Ok(Completed { objects, outcomes })
 }
 
-// Issues the works in their order.
-fn request_all<W: Work>(
+/// Issues the works in their order.
+pub(crate) fn request_all<W: Work>(
     alloc: Global,
     machine: &mut Machine<W>,
     works: Vec<Arc<W>>,
