@@ -1,5 +1,5 @@
-//! What queues, the iterate machine, the desk, cut positions and pieces answer: worked examples and tables, one file for each
-//! crate under test.
+//! What queues, the iterate machine, the desk, work loops, cut positions and pieces answer: worked examples and tables, one
+//! file for each crate under test.
 #![tactic(auto)]
 
 #[cfg(test)]
@@ -20,3 +20,5 @@ mod readiness;
 mod threads;
 #[cfg(test)]
 mod window;
+#[cfg(test)]
+mod worker;

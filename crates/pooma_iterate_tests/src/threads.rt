@@ -12,7 +12,7 @@ use std::thread;
 use std::thread::Threads;
 
 // How many objects there are.
-const OBJECTS: u32 = 16;
+pub(crate) const OBJECTS: u32 = 16;
 
 // Dispatches, performs and releases the entry, where nothing holds it back. Whether nothing did.
 fn try_once<R: Wait>(
@@ -141,7 +141,7 @@ fn together<R: Threads + Wait + Sync>(
 }
 
 // A machine of 16 objects, each of which is 0.
-fn sixteen(alloc: Global) -> Option<Machine<Adding>>
+pub(crate) fn sixteen(alloc: Global) -> Option<Machine<Adding>>
     ensures { IfSome result (λ machine. length machine.opening ≡ OBJECTS) }
 {
     let mut values = Vec::new(alloc);
