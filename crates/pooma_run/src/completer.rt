@@ -29,6 +29,9 @@ pub trait Completer<W: Work> {
     /// The windows told so far, where they are known.
     ghost told: { Self → Option (List Window) };
 
+    /// What has to be known of what it is made of.
+    ghost ready: { Self → Type 0 };
+
     /// What stays of it whatever it does, as whom it asks and whom it tells.
     ghost stays: { Self → Self → Type 0 };
 
@@ -46,6 +49,7 @@ pub trait Completer<W: Work> {
         objects: Vec<Arc<W::Value>>,
         works: Vec<Arc<W>>,
     ) -> Result<Completed<W>, AllocError>
+        requires ready { ready self.old }
         requires objects { All (AsksWithin W.meaning (length objects.items)) (map arc_value works.items) }
         requires fits { All (FitsShapes W.meaning (map W.meaning.shape (contents W.content objects.items))) (map arc_value works.items) }
         requires fewer { length works.items + 1 < 2 ^ 32 }
@@ -59,4 +63,7 @@ pub trait Completer<W: Work> {
     ghost stays_itself: { (c : Self) → stays c c };
 
     ghost stays_on: { (a b c : Self) → stays a b → stays b c → stays a c };
+
+    // And while it stays, as much is known of it.
+    ghost stays_ready: { (a b : Self) → stays a b → ready a → ready b };
 }

@@ -1,4 +1,4 @@
-ghost use Rattle.std.specs.Prelude.{◌≡◌, ◌⊎◌, ◌<◌, ◌+◌, ◌^◌, All, IfOk, OnErr, OnOk, length, map};
+ghost use Rattle.std.specs.Prelude.{◌≡◌, ◌⊎◌, ◌<◌, ◌+◌, ◌^◌, ⊤, All, IfOk, OnErr, OnOk, length, map};
 ghost use Rattle.std.specs.Arc.{arc_value};
 ghost use Rattle.pooma_machine.specs.Slots.{contents};
 ghost use Rattle.pooma_machine.specs.Machine.{FitsShapes};
@@ -39,6 +39,8 @@ where
 
     ghost told = { λ c. J.told c.journal.now };
 
+    ghost ready = { λ c. ⊤ };
+
     ghost stays = { λ old new. (new.picker.ghost_name ≡ old.picker.ghost_name) × (new.journal.ghost_name ≡ old.journal.ghost_name) };
 
     ghost tells = { λ works window old new. IsPickedFrom W.meaning works window (P.asked old.picker.now) (P.asked new.picker.now) };
@@ -49,12 +51,15 @@ where
 
     ghost stays_on = { λ a b c one two. (two.0 ∙ one.0, two.1 ∙ one.1) };
 
+    ghost stays_ready = { λ a b one known. known };
+
     fn complete(
         &mut self,
         alloc: Global,
         objects: Vec<Arc<W::Value>>,
         works: Vec<Arc<W>>,
     ) -> Result<Completed<W>, AllocError>
+        requires ready { ⊤ }
         requires objects { All (AsksWithin W.meaning (length objects.items)) (map arc_value works.items) }
         requires fits { All (FitsShapes W.meaning (map W.meaning.shape (contents W.content objects.items))) (map arc_value works.items) }
         requires fewer { length works.items + 1 < 2 ^ 32 }
