@@ -10,7 +10,7 @@ use std::sync::{Arc, Wait};
 // A work that adds one to the number of an object.
 #[derive(Drop)]
 pub(crate) struct Adding {
-    asks: Request,
+    pub(crate) asks: Request,
 }
 
 impl Work for Adding {

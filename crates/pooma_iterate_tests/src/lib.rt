@@ -17,6 +17,8 @@ mod queue;
 #[cfg(test)]
 mod readiness;
 #[cfg(test)]
+mod sharing;
+#[cfg(test)]
 mod threads;
 #[cfg(test)]
 mod window;
