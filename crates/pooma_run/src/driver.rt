@@ -66,6 +66,7 @@ pub(crate) fn run<C: Completer<Piece>>(
     program: &Program,
     completer: &mut C,
 ) -> Result<Ended, AllocError>
+    requires ready { C.ready completer.old }
     ensures serial { IfOk result (λ ended. ended ≡ serial_of program.now) }
     ensures stays { C.stays completer.old completer.new }
     ensures told { OnOk result (HasTold C.tells program.now (C.told completer.old) (C.told completer.new) completer.old completer.new) }
@@ -125,6 +126,7 @@ impl Running {
         statement: &Statement,
         completer: &mut C,
     ) -> Result<bool, AllocError>
+        requires ready { C.ready completer.old }
         requires underway { IsUnderway program.now self.old number }
         requires next { drop number program.now.order ≡ statement.now ∷ drop (number + 1) program.now.order }
         requires fit { IsFit program.now.declared statement.now.action }
@@ -166,6 +168,7 @@ impl Running {
         program: &Program,
         completer: &mut C,
     ) -> Result<Option<Vec<Outcome>>, AllocError>
+        requires ready { C.ready completer.old }
         requires of { IsOf program.now self.old }
         requires pending { ArePending program.now.declared (length program.now.order) self.old.pending }
         ensures outcomes { IfOk result (λ found. IfSome found (λ outcomes. outcomes.items ≡ (left self.old).outcomes)) }

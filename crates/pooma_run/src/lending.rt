@@ -24,6 +24,7 @@ pub(crate) fn complete_pending<C: Completer<Piece>>(
     store: &mut Store,
     pending: &mut Vec<Arc<Piece>>,
 ) -> Result<Vec<Outcome>, AllocError>
+    requires ready { C.ready completer.old }
     requires home { store.old.lent ≡ false }
     requires there { All (AsksWithin pieces (object_count store.old.layouts)) (map arc_value pending.old.items) }
     requires fits { All (FitsShapes pieces (areas_of store.old.layouts)) (map arc_value pending.old.items) }

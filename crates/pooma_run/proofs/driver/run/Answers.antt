@@ -27,6 +27,7 @@ statements-init g c = record {
   rest = c.walk-walk.ensures.order;
   within = omega arith;
   stays = g.met.C.Completer.stays_itself c.args.completer.now;
+  ready = c.requires.ready;
   tells =
       tells_as g.C.Completer.tells c.args.program.now (g.C.Completer.told c.args.completer.now) c.args.completer.now
       (windows_of [] (steps_of c.in_ok-running.running.stale 0 c.args.program.now.order)) _ (g.C.Completer.told c.args.completer.now) c.args.completer.now
@@ -57,6 +58,7 @@ statements-preserved g c =
       rest = left_behind c.args.program.now.order c.statements.number c.in-Some.statement.now c.next.new.self is;
       within = below_all c.args.program.now.order c.statements.number c.in-Some.statement.now c.next.new.self is;
       stays = g.met.C.Completer.stays_on c.args.completer.now c.statements.completer c.perform.new.completer c.statements.invariant.stays c.in_ok-perform.ensures.stays;
+      ready = g.met.C.Completer.stays_ready c.statements.completer c.perform.new.completer c.in_ok-perform.ensures.stays c.statements.invariant.ready;
       tells = (rw c.if-branch.false at c.in_ok-perform.ensures.told) (g.C.Completer.told c.args.completer.now) c.args.completer.now c.statements.invariant.tells;
     }
 

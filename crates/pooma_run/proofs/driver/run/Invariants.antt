@@ -9,6 +9,7 @@ invariant-statements g l = record {
   rest : l.walk ≡ drop l.number l.program.order;
   within : l.number ≤ length l.program.order;
   stays : g.C.Completer.stays l.fn.completer l.completer;
+  ready : g.C.Completer.ready l.completer;
   tells : TellsUpTo g.C.Completer.tells l.program l.running l.number (g.C.Completer.told l.fn.completer) (g.C.Completer.told l.completer) l.fn.completer l.completer;
 }
 
