@@ -1,12 +1,13 @@
 -- What statements do and print, one after another.
 use Rattle.std.specs.Prelude.{ℕ, Bool, true, false, List, [], ◌∷◌, ◌++◌}
 use Rattle.pooma_view.specs.Slots.{cell_named, positions_of}
-use Rattle.pooma_field.specs.Worlds.{World, scalar_of}
+use Rattle.pooma_field.specs.Worlds.{World, opening_world, scalar_of}
 use Rattle.pooma_model.specs.declared.statement.Action.{Action}
 use Rattle.pooma_model.specs.declared.statement.Action.TheVariants as action
 use Rattle.pooma_model.specs.declared.statement.Statement.{Statement}
 use Rattle.pooma_model.specs.Assigning.{Effect, Becomes, Faults, assigned}
 use Rattle.pooma_model.specs.Declarations.{Declared, seen_in}
+use Rattle.pooma_model.specs.Order.{Programmed}
 use Rattle.pooma_model.specs.Reducing.{reduced}
 use Rattle.pooma_model.specs.Texts.{fault_text, row_text, view_text}
 
@@ -42,3 +43,7 @@ abbrev pub serial : Declared → List Statement → World → Run
 serial declared [] world = record { bytes = []; faulted = false }
 serial declared (s ∷ rest) world =
     go_on s.line (printed declared s.action world) (effect_of declared s.action world) (serial declared rest)
+
+-- what a program's run is to be: its executed statements, from the world in which all numbers are 0
+abbrev pub serial_of : Programmed → Run
+serial_of program = serial program.declared program.order (opening_world program.declared.shapes program.declared.scalars)

@@ -11,7 +11,7 @@ use Rattle.pooma_machine.specs.Told.{Window}
 use Rattle.pooma_model.specs.declared.statement.Statement.{Statement}
 use Rattle.pooma_model.specs.Declarations.{Declared}
 use Rattle.pooma_model.specs.Order.{Programmed}
-use Rattle.pooma_model.specs.Serial.{Run}
+use Rattle.pooma_model.specs.Serial.{Run, serial_of}
 use Rattle.pooma_piece.specs.Pieces.{Pieced}
 use Rattle.pooma_piece.specs.Words.{HaveWords}
 use Rattle.pooma_split.specs.Splits.{declared_in}
@@ -19,7 +19,7 @@ use Rattle.pooma_split.specs.Statements.{fault_among}
 use Rattle.pooma_store.specs.Stored.{AreArrays, IsStore}
 use Rattle.pooma_run.specs.Steps.{window_with}
 use Rattle.pooma_run.specs.Told.{HasTold, TellsUpTo, ToldAs}
-use Rattle.pooma_run.specs.Underway.{IsOf, IsUnderway, Kept, WritesFault, completed, left, serial_of}
+use Rattle.pooma_run.specs.Underway.{IsOf, IsUnderway, Kept, WritesFault, completed, left}
 use Rattle.pooma_run.proofs.Concluding.{ended_at_last, ran_whole}
 use Rattle.pooma_run.proofs.Faulting.{has_fault}
 use Rattle.pooma_run.proofs.Performed.{ends_so}

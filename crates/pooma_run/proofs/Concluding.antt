@@ -20,7 +20,7 @@ use Rattle.pooma_model.specs.Declarations.{Declared, seen_in}
 use Rattle.pooma_model.specs.Fit.{IsFit}
 use Rattle.pooma_model.specs.Order.{Programmed}
 use Rattle.pooma_model.specs.Reducing.{scalar_given}
-use Rattle.pooma_model.specs.Serial.{effect_of, go_on, printed, serial}
+use Rattle.pooma_model.specs.Serial.{effect_of, go_on, printed, serial, serial_of}
 use Rattle.pooma_model.specs.Texts.{fault_text, row_text, view_text}
 use Rattle.pooma_num.specs.declared.fault.FaultKind.{FaultKind}
 use Rattle.pooma_piece.specs.declared.outcome.Outcome.{Outcome}
@@ -35,9 +35,9 @@ use Rattle.pooma_view.specs.Slots.{cell_named, positions_of}
 use Rattle.pooma_view.specs.Views.{Viewed}
 use Rattle.pooma_run.specs.Gathered.{HasLaws}
 use Rattle.pooma_run.specs.Outcomes.{AreValues, joined, value_of}
-use Rattle.pooma_run.specs.Plan.{ends_window, fault_or_later, first_to_fault}
+use Rattle.pooma_run.specs.Plan.{ends_window, fault_of_run, fault_or_later, first_to_fault}
 use Rattle.pooma_run.specs.Showing.{CanShow, OwnersHave}
-use Rattle.pooma_run.specs.Underway.{AddedBy, ArePending, EndsBy, GoesOn, IsAdded, IsConcluding, IsDone, IsHere, IsOf, IsUnderway, Kept, StandsBy, behind, completed, fault_of_run, left, serial_of}
+use Rattle.pooma_run.specs.Underway.{AddedBy, ArePending, EndsBy, GoesOn, IsAdded, IsConcluding, IsDone, IsHere, IsOf, IsUnderway, Kept, StandsBy, behind, completed, left}
 use Rattle.pooma_run.specs.Windows.{AsksWithin}
 use Rattle.pooma_run.proofs.Standing.{has_total, owner_shows}
 

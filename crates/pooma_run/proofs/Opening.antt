@@ -15,9 +15,10 @@ use Rattle.pooma_model.specs.Declarations.{Declared}
 use Rattle.pooma_model.specs.Order.{Programmed}
 use Rattle.pooma_store.specs.Numbering.{new_objects, new_patches, zeros_over}
 use Rattle.pooma_store.specs.Stored.{AreArrays}
+use Rattle.pooma_model.specs.Serial.{serial_of}
 use Rattle.pooma_piece.specs.Words.{AllWords}
 use Rattle.pooma_run.specs.Gathered.{HasLaws}
-use Rattle.pooma_run.specs.Underway.{IsHere, IsOf, IsUnderway, Kept, behind, serial_of}
+use Rattle.pooma_run.specs.Underway.{IsHere, IsOf, IsUnderway, Kept, behind}
 use Rattle.pooma_run.proofs.Concluding.{at_rest}
 use Rattle.pooma_run.proofs.Standing.{has_arrays, store_of}
 

@@ -11,6 +11,7 @@ use Rattle.pooma_model.specs.Declarations.{Declared}
 use Rattle.pooma_model.specs.Fit.{IsFit}
 use Rattle.pooma_model.specs.Order.{Programmed}
 use Rattle.pooma_model.specs.Texts.{fault_text}
+use Rattle.pooma_model.specs.Serial.{serial_of}
 use Rattle.pooma_piece.specs.declared.outcome.Outcome.{Outcome}
 use Rattle.pooma_piece.specs.Pieces.{Pieced}
 use Rattle.pooma_piece.specs.Plans.{Faulted}
@@ -18,10 +19,10 @@ use Rattle.pooma_split.specs.Splits.{pieces_of}
 use Rattle.pooma_split.specs.Statements.{as_fault, fault_among}
 use Rattle.pooma_run.specs.Gathered.{HasLaws}
 use Rattle.pooma_split.specs.Words.{literals_fit_in}
-use Rattle.pooma_run.specs.Plan.{ends_window, steps_of, works_of}
+use Rattle.pooma_run.specs.Plan.{ends_window, fault_of_run, steps_of, works_of}
 use Rattle.pooma_run.specs.Steps.{has_statement, window_with, windows_of}
 use Rattle.pooma_run.specs.Told.{HasTold, HasToldFirst, IsCutShort, TellsTo, TellsUpTo, ToldAs, entries_of}
-use Rattle.pooma_run.specs.Underway.{ArePending, EndsBy, IsAdded, IsConcluding, IsOf, IsUnderway, Kept, WritesFault, begins, completed, fault_of_run, left, serial_of, with_works}
+use Rattle.pooma_run.specs.Underway.{ArePending, EndsBy, IsAdded, IsConcluding, IsOf, IsUnderway, Kept, WritesFault, begins, completed, left, with_works}
 use Rattle.pooma_run.proofs.Concluding.{concluding, ended_by, went_on}
 use Rattle.pooma_run.proofs.Faulting.{has_fault}
 use Rattle.pooma_run.proofs.Performing.{are_before, ends_here, goes_on, has_its_own, tells_end, tells_on, told_first_short}

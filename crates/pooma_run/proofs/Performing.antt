@@ -28,10 +28,10 @@ use Rattle.pooma_split.specs.Statements.{as_fault, fault_among}
 use Rattle.pooma_store.specs.Stored.{Stored}
 use Rattle.pooma_view.specs.Slots.{positions_of}
 use Rattle.pooma_run.specs.Gathered.{HasLaws}
-use Rattle.pooma_run.specs.Plan.{ends_window, fault_or_later, first_to_fault, stale_after, step_of, steps_of, works_of}
+use Rattle.pooma_run.specs.Plan.{ends_window, fault_of_run, fault_or_later, first_to_fault, stale_after, step_of, steps_of, works_of}
 use Rattle.pooma_run.specs.Steps.{has_statement, is_end, window_with, windows_of}
 use Rattle.pooma_run.specs.Told.{AreBeforeFault, HasToldFirst, IsCutShort, TellsTo, TellsUpTo, ToldAs, entries_of}
-use Rattle.pooma_run.specs.Underway.{ArePending, GoesOn, IsUnderway, Kept, StandsBy, WritesFault, begins, completed, fault_of_run, left, with_works}
+use Rattle.pooma_run.specs.Underway.{ArePending, GoesOn, IsUnderway, Kept, StandsBy, WritesFault, begins, completed, left, with_works}
 use Rattle.pooma_run.proofs.Faulting.{or_right, same_number}
 use Rattle.pooma_run.proofs.Telling.{none_ends, one_ends, tells_as, told_first, told_first_stopped, told_first_with}
 

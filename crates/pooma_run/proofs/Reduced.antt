@@ -16,10 +16,12 @@ use Rattle.pooma_model.specs.declared.statement.Statement.{Statement}
 use Rattle.pooma_model.specs.Assigning.{Sum}
 use Rattle.pooma_model.specs.Order.{Programmed}
 use Rattle.pooma_model.specs.Texts.{fault_text}
+use Rattle.pooma_model.specs.Serial.{serial_of}
 use Rattle.pooma_piece.specs.declared.outcome.Outcome.{Outcome}
 use Rattle.pooma_run.specs.Gathered.{HasLaws}
 use Rattle.pooma_run.specs.Outcomes.{AreValues, joined, value_of}
-use Rattle.pooma_run.specs.Underway.{IsConcluding, IsUnderway, Kept, fault_of_run, serial_of}
+use Rattle.pooma_run.specs.Plan.{fault_of_run}
+use Rattle.pooma_run.specs.Underway.{IsConcluding, IsUnderway, Kept}
 use Rattle.pooma_run.proofs.Concluding.{answered, concluded_number, concluded_sum}
 
 -- pieces answered for some numbers, so there are some

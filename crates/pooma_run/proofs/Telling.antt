@@ -10,11 +10,10 @@ use Rattle.pooma_fill.specs.Marks.{Staled}
 use Rattle.pooma_model.specs.Order.{Programmed}
 use Rattle.pooma_piece.specs.Meaning.{pieces}
 use Rattle.pooma_piece.specs.Pieces.{Pieced}
-use Rattle.pooma_run.specs.Plan.{IsOpening, IsPlan, steps_of}
+use Rattle.pooma_run.specs.Plan.{IsOpening, IsPlan, fault_of_run, steps_of}
 use Rattle.pooma_run.specs.Steps.{Step, has_statement, is_end, window_with, windows_of, windows_run, windows_up_to}
 use Rattle.pooma_run.specs.Told.{AreBeforeFault, HasStopped, HasTold, HasToldFirst, IsBeforeFault, TellsTo, ToldAs, entries_of}
 use Rattle.pooma_run.specs.Turns.{AreTold, told_behind}
-use Rattle.pooma_run.specs.Underway.{fault_of_run}
 
 -- behind a step at which no window ends its entries are pending too
 pub none_ends : (pending added : List Entry) (step : Step) (steps : List Step) → added ≡ pending ++ step.entries → is_end step added ≡ false

@@ -56,10 +56,13 @@ pub record IsOpening (program : Programmed) (stale : Staled) : Type 0 where
   pub declared : declared_of stale ≡ program.declared
   pub marks : stale.marks ≡ map first_mark stale.shapes
 
--- all windows of the program, and those that are run: up to and with the one that holds the first fault
+-- the number of the first statement of the program that faults
+abbrev pub fault_of_run : Programmed → Option ℕ
+fault_of_run program = first_to_fault program.declared 0 program.order (opening_world program.declared.shapes program.declared.scalars)
+
+-- of all windows of the program those that are run: up to and with the one that holds the first fault
 abbrev pub plan_from : Staled → Programmed → List (List Entry)
-plan_from stale program =
-    windows_run (first_to_fault program.declared 0 program.order (opening_world program.declared.shapes program.declared.scalars)) (windows_of [] (steps_of stale 0 program.order))
+plan_from stale program = windows_run (fault_of_run program) (windows_of [] (steps_of stale 0 program.order))
 
 abbrev pub IsPlan : Programmed → List (List Entry) → Type 0
 IsPlan program windows = (stale : Staled) × IsOpening program stale × (windows ≡ plan_from stale program)

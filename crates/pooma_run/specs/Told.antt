@@ -7,10 +7,12 @@ use Rattle.pooma_machine.specs.Told.{Window}
 use Rattle.pooma_model.specs.Order.{Programmed}
 use Rattle.pooma_piece.specs.Meaning.{pieces}
 use Rattle.pooma_piece.specs.Pieces.{Pieced}
-use Rattle.pooma_run.specs.Plan.{IsOpening, IsPlan, steps_of}
+use Rattle.pooma_run.specs.Plan.{IsOpening, IsPlan, fault_of_run, steps_of}
+use Rattle.pooma_run.specs.Questions.{Question}
 use Rattle.pooma_run.specs.Steps.{window_with, windows_of}
 use Rattle.pooma_run.specs.Turns.{AreTold, told_behind}
-use Rattle.pooma_run.specs.Underway.{Kept, fault_of_run}
+use Rattle.pooma_run.specs.Underway.{Kept}
+use Rattle.pooma_run.specs.Windows.{IsPickedFrom}
 
 abbrev pub entries_of : List Pieced → List Entry
 entries_of works = map (entry_of pieces) works
@@ -26,6 +28,13 @@ pub record HasTold {S : Type 0} (tells : List Pieced → Window → S → S → 
   pub works : List (List Pieced)
   pub plan : IsPlan program (map entries_of works)
   pub told_as : ToldAs tells works known told old new
+
+-- the questions that were asked are those of all windows of the plan, one window after another
+pub record HasAsked (program : Programmed) (old new : Option (List Question)) : Type 0 where
+  pub works : List (List Pieced)
+  pub plan : IsPlan program (map entries_of works)
+  pub windows : List Window
+  pub each : AreTold (IsPickedFrom pieces) works windows old new
 
 -- the completer stopped in the first of these windows
 pub record HasStopped {S : Type 0} (stops : List Pieced → S → S → Type 0) (windows : List (List Entry)) (old new : S) : Type 0 where

@@ -6,7 +6,7 @@ use Rattle.pooma_expr.specs.declared.tree.Expr.{Expr}
 use Rattle.pooma_expr.specs.Reductions.{AllFit, result_over}
 use Rattle.pooma_expr.specs.Words.{IsWord}
 use Rattle.pooma_field.specs.Numbered.{Numbered}
-use Rattle.pooma_field.specs.Worlds.{World, opening_world}
+use Rattle.pooma_field.specs.Worlds.{World}
 use Rattle.pooma_fill.specs.declared.stale.Mark.{Mark}
 use Rattle.pooma_fill.specs.Marks.{Staled, declared_of, fills_before}
 use Rattle.pooma_law.specs.Ser.{Results}
@@ -20,7 +20,7 @@ use Rattle.pooma_model.specs.Fit.{IsFit}
 use Rattle.pooma_model.specs.Order.{Programmed}
 use Rattle.pooma_model.specs.Reducing.{reduced, scalar_given}
 use Rattle.pooma_model.specs.Runs.{IsWorldOf}
-use Rattle.pooma_model.specs.Serial.{Run, serial}
+use Rattle.pooma_model.specs.Serial.{Run, serial, serial_of}
 use Rattle.pooma_model.specs.Texts.{fault_text}
 use Rattle.pooma_piece.specs.declared.outcome.Outcome.{Outcome}
 use Rattle.pooma_piece.specs.Meaning.{pieces}
@@ -33,20 +33,12 @@ use Rattle.pooma_store.specs.Numbering.{AreObjects, areas_of, object_count}
 use Rattle.pooma_store.specs.Standing.{IsFresh, IsFreshFor, StandsFor}
 use Rattle.pooma_store.specs.Stored.{AreArrays, Stored}
 use Rattle.pooma_run.specs.Outcomes.{AreValues, joined}
-use Rattle.pooma_run.specs.Plan.{first_to_fault, stale_after, works_of}
+use Rattle.pooma_run.specs.Plan.{fault_of_run, first_to_fault, stale_after, works_of}
 use Rattle.pooma_run.specs.Windows.{AsksWithin}
-
--- what a run is to be: the program's statements done one after another, from the world in which all numbers are 0
-abbrev pub serial_of : Programmed → Run
-serial_of program = serial program.declared program.order (opening_world program.declared.shapes program.declared.scalars)
 
 -- the run behind these bytes
 abbrev pub behind : List ℕ → Run → Run
 behind bytes run = record { bytes = bytes ++ run.bytes; faulted = run.faulted }
-
--- the number of the first statement that faults
-abbrev pub fault_of_run : Programmed → Option ℕ
-fault_of_run program = first_to_fault program.declared 0 program.order (opening_world program.declared.shapes program.declared.scalars)
 
 -- what is kept
 pub record Kept : Type 0 where

@@ -6,12 +6,13 @@ ghost use Rattle.pooma_model.specs.Assigning.{Sum};
 ghost use Rattle.pooma_model.specs.Fit.{IsFit};
 ghost use Rattle.pooma_model.specs.Order.{Programmed};
 ghost use Rattle.pooma_model.specs.Texts.{fault_text};
+ghost use Rattle.pooma_model.specs.Serial.{serial_of};
 ghost use Rattle.pooma_split.specs.Statements.{fault_among};
 ghost use Rattle.pooma_fill.specs.Marks.{Staled};
-ghost use Rattle.pooma_run.specs.Plan.{IsOpening};
+ghost use Rattle.pooma_run.specs.Plan.{IsOpening, fault_of_run};
 ghost use Rattle.pooma_run.specs.Steps.{window_with};
 ghost use Rattle.pooma_run.specs.Told.{HasTold, HasToldFirst, IsCutShort, TellsUpTo, ToldAs};
-ghost use Rattle.pooma_run.specs.Underway.{ArePending, IsConcluding, IsOf, IsUnderway, WritesFault, completed, fault_of_run, left, serial_of};
+ghost use Rattle.pooma_run.specs.Underway.{ArePending, IsConcluding, IsOf, IsUnderway, WritesFault, completed, left};
 
 use crate::completer::Completer;
 use crate::ended::Ended;

@@ -33,6 +33,13 @@ impl Ended {
         &self.bytes
     }
 
+    /// What it wrote, as the value's own.
+    pub fn into_bytes(self) -> Vec<u8>
+        ensures { result.items ≡ self.bytes }
+    {
+        self.bytes
+    }
+
     /// Whether a fault ended it.
     pub fn faulted(&self) -> bool
         ensures { result ≡ self.now.faulted }

@@ -1,12 +1,8 @@
 //! Runs on one thread.
-ghost use Rattle.std.specs.Prelude.{◌≡◌, ◌++◌, List, IfOk, OnErr, OnOk, map};
-ghost use Rattle.pooma_machine.specs.declared.journal.Entry.{Entry};
-ghost use Rattle.pooma_machine.specs.Told.{Window};
+ghost use Rattle.std.specs.Prelude.{◌≡◌, IfOk, OnErr, OnOk};
+ghost use Rattle.pooma_model.specs.Serial.{serial_of};
 ghost use Rattle.pooma_piece.specs.Meaning.{pieces};
-ghost use Rattle.pooma_piece.specs.Pieces.{Pieced};
-ghost use Rattle.pooma_run.specs.Plan.{IsPlan};
 ghost use Rattle.pooma_run.specs.Told.{HasTold, HasToldFirst};
-ghost use Rattle.pooma_run.specs.Underway.{serial_of};
 ghost use Rattle.pooma_run.specs.Windows.{IsPickedFrom, IsStopped};
 
 use crate::driver::run;
