@@ -1,5 +1,5 @@
 -- A run before its first statement, and behind its last one.
-use Rattle.std.proofs.Common.{◌≡◌, ◌∙◌, refl, sym, ap, subst, ℕ, zero, suc, ◌+◌, ◌≤◌, ℤ, pos, Bool, true, false, Option, None, Some, List, [], ◌∷◌, ◌++◌, drop, length, map, arith}
+use Rattle.std.proofs.Common.{◌≡◌, ◌∙◌, sym, ap, subst, ℕ, zero, suc, ◌+◌, pos, Bool, false, Option, None, Some, List, [], ◌∷◌, drop, length, map, arith}
 use Rattle.std.specs.Prelude.{All, IfNone, OnSome, is_none, replicate}
 use Rattle.std.proofs.lemmas.List.{drop-drop, length-map, length-replicate}
 use Rattle.std.proofs.lemmas.List.Elements.{All-head, All-replicate, All-tail}
@@ -9,12 +9,10 @@ use Rattle.pooma_fill.specs.Marks.{declared_of, first_mark}
 use Rattle.pooma_layout.specs.Axes.{CutAxis}
 use Rattle.pooma_machine.specs.Told.{Window}
 use Rattle.pooma_model.specs.declared.statement.Statement.{Statement}
-use Rattle.pooma_model.specs.Declarations.{Declared}
 use Rattle.pooma_model.specs.Order.{Programmed}
-use Rattle.pooma_model.specs.Serial.{Run, serial_of}
+use Rattle.pooma_model.specs.Serial.{serial_of}
 use Rattle.pooma_piece.specs.Pieces.{Pieced}
 use Rattle.pooma_piece.specs.Words.{HaveWords}
-use Rattle.pooma_split.specs.Splits.{declared_in}
 use Rattle.pooma_split.specs.Statements.{fault_among}
 use Rattle.pooma_store.specs.Stored.{AreArrays, IsStore}
 use Rattle.pooma_run.specs.Steps.{window_with}

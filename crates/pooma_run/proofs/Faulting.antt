@@ -1,12 +1,11 @@
 -- Of which statement the earliest fault of works is.
-use Rattle.std.proofs.Common.{◌≡◌, ◌∙◌, refl, sym, ap, subst, ℕ, Bool, true, false, Option, None, Some, List, [], ◌∷◌, length, map, arith, rules}
-use Rattle.std.specs.List.{cons_option}
+use Rattle.std.proofs.Common.{◌≡◌, refl, subst, ℕ, Bool, true, false, Option, None, Some, List, [], ◌∷◌, map, rules}
 use Rattle.std.specs.Prelude.{◌==◌, ◌||◌, All, IfSome, fold, if◌then◌else◌}
 use Rattle.std.proofs.lemmas.List.Elements.{All-cons, All-head, All-nil, All-tail}
 use Rattle.pooma_piece.specs.declared.outcome.Outcome.{Outcome}
 use Rattle.pooma_piece.specs.declared.outcome.Outcome.TheVariants.{Done, Value, Fault}
 use Rattle.pooma_piece.specs.Pieces.{Pieced}
-use Rattle.pooma_piece.specs.Plans.{Faulted, fault_in, faults_of, is_earlier, or_earlier, plan_fault}
+use Rattle.pooma_piece.specs.Plans.{Faulted, faults_of, is_earlier, or_earlier, plan_fault}
 use Rattle.pooma_run.specs.Steps.{has_statement}
 use Rattle.pooma_run.specs.Told.{entries_of}
 
@@ -43,7 +42,6 @@ or_right false b e = e
 
 pub same_number : (n : ℕ) → (n == n) ≡ true
 same_number n = search rules
-
 
 all_have : (works : List Pieced) → All (λ n. has_statement n (entries_of works) ≡ true) (map (λ (piece : Pieced). piece.statement) works)
 all_have [] = All-nil (λ n. has_statement n (entries_of []) ≡ true)

@@ -27,3 +27,4 @@ pub mod Performed
 pub mod Reduced
 pub mod Beginning
 pub mod Seated
+pub mod Shared

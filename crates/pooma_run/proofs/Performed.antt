@@ -1,7 +1,7 @@
 -- A statement as it is performed: where the run stands, and what is told.
-use Rattle.std.proofs.Common.{◌≡◌, ◌∙◌, refl, sym, ap, subst, ℕ, suc, ◌+◌, ◌-◌, ◌<◌, ◌≤◌, Bool, true, false, Option, None, Some, List, [], ◌∷◌, ◌++◌, drop, length, length-append, length-drop, take, arith}
+use Rattle.std.proofs.Common.{◌≡◌, ◌∙◌, sym, ap, subst, ℕ, suc, ◌+◌, ◌-◌, ◌<◌, ◌≤◌, Bool, true, false, Option, None, Some, List, [], ◌∷◌, ◌++◌, drop, length, length-append, length-drop, take, arith}
 use Rattle.std.specs.Bool.{OnFalse, OnTrue}
-use Rattle.std.specs.Prelude.{◌⊎◌, All, IfOk, IsTrue, OnOk, Result, Ok, Err}
+use Rattle.std.specs.Prelude.{◌⊎◌, IfOk, IsTrue, OnOk, Result, Ok, Err}
 use Rattle.std.proofs.lemmas.List.{take_rest}
 use Rattle.pooma_fill.specs.Marks.{declared_of, fills_before}
 use Rattle.pooma_machine.specs.declared.journal.Entry.{Entry}
@@ -14,7 +14,6 @@ use Rattle.pooma_model.specs.Texts.{fault_text}
 use Rattle.pooma_model.specs.Serial.{serial_of}
 use Rattle.pooma_piece.specs.declared.outcome.Outcome.{Outcome}
 use Rattle.pooma_piece.specs.Pieces.{Pieced}
-use Rattle.pooma_piece.specs.Plans.{Faulted}
 use Rattle.pooma_split.specs.Splits.{pieces_of}
 use Rattle.pooma_split.specs.Statements.{as_fault, fault_among}
 use Rattle.pooma_run.specs.Gathered.{HasLaws}
@@ -22,7 +21,7 @@ use Rattle.pooma_split.specs.Words.{literals_fit_in}
 use Rattle.pooma_run.specs.Plan.{ends_window, fault_of_run, steps_of, works_of}
 use Rattle.pooma_run.specs.Steps.{has_statement, window_with, windows_of}
 use Rattle.pooma_run.specs.Told.{HasTold, HasToldFirst, IsCutShort, TellsTo, TellsUpTo, ToldAs, entries_of}
-use Rattle.pooma_run.specs.Underway.{ArePending, EndsBy, IsAdded, IsConcluding, IsOf, IsUnderway, Kept, WritesFault, begins, completed, left, with_works}
+use Rattle.pooma_run.specs.Underway.{ArePending, EndsBy, IsAdded, IsConcluding, IsUnderway, Kept, WritesFault, begins, completed, left, with_works}
 use Rattle.pooma_run.proofs.Concluding.{concluding, ended_by, went_on}
 use Rattle.pooma_run.proofs.Faulting.{has_fault}
 use Rattle.pooma_run.proofs.Performing.{are_before, ends_here, goes_on, has_its_own, tells_end, tells_on, told_first_short}
@@ -74,10 +73,10 @@ module _ {program : Programmed} {kept : Kept} {number : ℕ} {s : Statement} {no
       let answered : length (left now).outcomes ≡ length now.pending = performs.laws.works.count now.pending now.store.objects in
       let pending : length now.pending ≡ length (kept.pending ++ works_of kept.stale kept.scalars number s.action) = ap (λ (k : Kept). length k.pending) performs.is in
       let all : length (kept.pending ++ works_of kept.stale kept.scalars number s.action) ≡ length kept.pending + length (works_of kept.stale kept.scalars number s.action) =
-          length-append kept.pending (works_of kept.stale kept.scalars number s.action) in
+      length-append kept.pending (works_of kept.stale kept.scalars number s.action) in
       let own : length (works_of kept.stale kept.scalars number s.action)
-              ≡ length (fills_before kept.stale.layouts kept.stale number s.action) + length (pieces_of (declared_of kept.stale) kept.scalars number s.action) =
-          length-append (fills_before kept.stale.layouts kept.stale number s.action) (pieces_of (declared_of kept.stale) kept.scalars number s.action) in
+      ≡ length (fills_before kept.stale.layouts kept.stale number s.action) + length (pieces_of (declared_of kept.stale) kept.scalars number s.action) =
+      length-append (fills_before kept.stale.layouts kept.stale number s.action) (pieces_of (declared_of kept.stale) kept.scalars number s.action) in
       let same : length items ≡ length (left now).outcomes = ap length are in
       omega arith
 

@@ -1,6 +1,6 @@
 -- What is told while a statement is performed.
 use Rattle.std.proofs.Common.{◌≡◌, ◌∙◌, refl, sym, ap, subst, ℕ, zero, suc, ◌+◌, ◌-◌, ◌<◌, ◌≤◌, ℤ, Bool, true, false, Option, None, Some, List, [], ◌∷◌, ◌++◌, drop, length, length-append, length-drop, map, append-nil, add-one, inl, inr, arith, rules}
-use Rattle.std.specs.Prelude.{◌⊎◌, ◌||◌, ◌==◌, All, IfSome, not, nat_lt, slice_get}
+use Rattle.std.specs.Prelude.{◌⊎◌, ◌||◌, ◌==◌, IfSome, not, nat_lt, slice_get}
 use Rattle.std.proofs.lemmas.List.{length-map, map-append}
 use Rattle.pooma_fill.specs.Marks.{Staled, declared_of, fills_before}
 use Rattle.pooma_domain.specs.Cells.{Interval}
@@ -30,8 +30,8 @@ use Rattle.pooma_view.specs.Slots.{positions_of}
 use Rattle.pooma_run.specs.Gathered.{HasLaws}
 use Rattle.pooma_run.specs.Plan.{ends_window, fault_of_run, fault_or_later, first_to_fault, stale_after, step_of, steps_of, works_of}
 use Rattle.pooma_run.specs.Steps.{has_statement, is_end, window_with, windows_of}
-use Rattle.pooma_run.specs.Told.{AreBeforeFault, HasToldFirst, IsCutShort, TellsTo, TellsUpTo, ToldAs, entries_of}
-use Rattle.pooma_run.specs.Underway.{ArePending, GoesOn, IsUnderway, Kept, StandsBy, WritesFault, begins, completed, left, with_works}
+use Rattle.pooma_run.specs.Told.{AreBeforeFault, HasToldFirst, IsCutShort, TellsTo, TellsUpTo, entries_of}
+use Rattle.pooma_run.specs.Underway.{ArePending, IsUnderway, Kept, StandsBy, WritesFault, begins, completed, left, with_works}
 use Rattle.pooma_run.proofs.Faulting.{or_right, same_number}
 use Rattle.pooma_run.proofs.Telling.{none_ends, one_ends, tells_as, told_first, told_first_stopped, told_first_with}
 
@@ -138,7 +138,7 @@ from_here declared number (s ∷ rest) world k is = by (effect_of declared s.act
 pub none_before : (program : Programmed) (kept : Kept) (number : ℕ) → IsUnderway program kept number → kept.pending ≡ [] → (k : ℕ) → fault_of_run program ≡ Some k → number ≤ k
 none_before program kept number underway none k is =
     let stands : StandsBy program kept number (drop number program.order) None =
-        subst (StandsBy program kept number (drop number program.order)) (ap (λ (works : List Pieced). fault_among works (left kept)) none) underway.stands in
+    subst (StandsBy program kept number (drop number program.order)) (ap (λ (works : List Pieced). fault_among works (left kept)) none) underway.stands in
     from_here program.declared number (drop number program.order) stands.0 k (sym stands.1.first ∙ is)
 
 -- so the works of statements before it are of statements before the first that faults
@@ -186,10 +186,10 @@ has_its_own laws kept number does some =
     there =
         let answered : length (left (with_works kept number does)).outcomes ≡ length (with_works kept number does).pending = laws.works.count (with_works kept number does).pending kept.store.objects in
         let dropped : length (drop (begins kept number does) (left (with_works kept number does)).outcomes) ≡ length (left (with_works kept number does)).outcomes - begins kept number does =
-            length-drop (begins kept number does) (left (with_works kept number does)).outcomes in
+        length-drop (begins kept number does) (left (with_works kept number does)).outcomes in
         let all : length (with_works kept number does).pending ≡ length kept.pending + length (works_of kept.stale kept.scalars number does) = length-append kept.pending (works_of kept.stale kept.scalars number does) in
         let own : length (works_of kept.stale kept.scalars number does) ≡ length (fills_before kept.stale.layouts kept.stale number does) + length (pieces_of (declared_of kept.stale) kept.scalars number does) =
-            length-append (fills_before kept.stale.layouts kept.stale number does) (pieces_of (declared_of kept.stale) kept.scalars number does) in
+        length-append (fills_before kept.stale.layouts kept.stale number does) (pieces_of (declared_of kept.stale) kept.scalars number does) in
         omega arith
 
 -- The fault of the pending works, as the code finds it.

@@ -1,10 +1,9 @@
 -- A reduction as its scalar is given its number, or the fault of its sum is written.
-use Rattle.std.proofs.Common.{◌≡◌, ◌∙◌, refl, sym, ap, subst, ℕ, ◌+◌, ◌<◌, ◌≤◌, ℤ, Bool, true, false, Option, Some, Result, Ok, Err, List, [], ◌∷◌, ◌++◌, length, map, arith}
+use Rattle.std.proofs.Common.{◌≡◌, ◌∙◌, refl, sym, ap, subst, ℕ, ◌+◌, ◌<◌, ◌≤◌, ℤ, Bool, true, false, Some, Result, Ok, Err, List, [], ◌∷◌, ◌++◌, length, map, arith}
 use Rattle.std.specs.Bool.{OnFalse, OnTrue}
 use Rattle.std.specs.Prelude.{IfErr, IfOk, OnOk, slice_set}
 use Rattle.std.proofs.lemmas.List.{length-map}
 use Rattle.std.specs.declared.alloc.AllocError.{AllocError}
-use Rattle.pooma_num.specs.declared.fault.FaultKind.{FaultKind}
 use Rattle.pooma_domain.specs.Cells.{Interval}
 use Rattle.pooma_expr.specs.declared.reduction.Reduction.{Reduction}
 use Rattle.pooma_expr.specs.declared.tree.Expr.{Expr}
@@ -22,7 +21,7 @@ use Rattle.pooma_run.specs.Gathered.{HasLaws}
 use Rattle.pooma_run.specs.Outcomes.{AreValues, joined, value_of}
 use Rattle.pooma_run.specs.Plan.{fault_of_run}
 use Rattle.pooma_run.specs.Underway.{IsConcluding, IsUnderway, Kept}
-use Rattle.pooma_run.proofs.Concluding.{answered, concluded_number, concluded_sum}
+use Rattle.pooma_run.proofs.Concluding.{concluded_number, concluded_sum}
 
 -- pieces answered for some numbers, so there are some
 pub some_answered : (reduction : Reduction) (outcomes : List Outcome) → AreValues reduction outcomes → 0 < length outcomes

@@ -1,6 +1,6 @@
 -- Windows as they are told, one after another.
 use Rattle.std.proofs.Common.{◌≡◌, ◌∙◌, refl, sym, ap, subst, ℕ, Bool, true, false, Option, None, Some, List, [], ◌∷◌, ◌++◌, ◌<◌, length, map, append_assoc, append-nil, inl, inr, arith, rules}
-use Rattle.std.specs.Prelude.{◌⊎◌, ◌==◌, All, if◌then◌else◌}
+use Rattle.std.specs.Prelude.{◌==◌, All, if◌then◌else◌}
 use Rattle.std.proofs.lemmas.List.{map-append}
 use Rattle.std.proofs.lemmas.List.Elements.{All-append, All-cons, All-head, All-nil, All-tail}
 use Rattle.pooma_machine.specs.declared.journal.Entry.{Entry}
@@ -10,10 +10,12 @@ use Rattle.pooma_fill.specs.Marks.{Staled}
 use Rattle.pooma_model.specs.Order.{Programmed}
 use Rattle.pooma_piece.specs.Meaning.{pieces}
 use Rattle.pooma_piece.specs.Pieces.{Pieced}
-use Rattle.pooma_run.specs.Plan.{IsOpening, IsPlan, fault_of_run, steps_of}
+use Rattle.pooma_run.specs.Plan.{IsOpening, fault_of_run, steps_of}
+use Rattle.pooma_run.specs.Questions.{Question}
 use Rattle.pooma_run.specs.Steps.{Step, has_statement, is_end, window_with, windows_of, windows_run, windows_up_to}
-use Rattle.pooma_run.specs.Told.{AreBeforeFault, HasStopped, HasTold, HasToldFirst, IsBeforeFault, TellsTo, ToldAs, entries_of}
+use Rattle.pooma_run.specs.Told.{AreBeforeFault, HasAsked, HasTold, HasToldFirst, TellsTo, ToldAs, entries_of}
 use Rattle.pooma_run.specs.Turns.{AreTold, told_behind}
+use Rattle.pooma_run.specs.Windows.{IsPickedFrom}
 
 -- behind a step at which no window ends its entries are pending too
 pub none_ends : (pending added : List Entry) (step : Step) (steps : List Step) → added ≡ pending ++ step.entries → is_end step added ≡ false
@@ -210,9 +212,11 @@ module _ {S : Type 0} (tells : List Pieced → Window → S → S → Type 0) (p
     -- the windows that are run begin with it, and then others
     run_with : (rest : List (List Entry)) × (map entries_of to.works ++ (window_with (entries_of pending) ++ rest) ≡ windows_run (fault_of_run program) (windows_of [] (steps_of to.first 0 program.order)))
     run_with =
-        let found = first_is_run (fault_of_run program) (entries_of pending) later in
-        (found.0, ap (λ (ws : List (List Entry)). map entries_of to.works ++ ws) (sym found.1)
-        ∙ sym (run_behind program to.works (window_with (entries_of pending) ++ later) to.before) ∙ ap (windows_run (fault_of_run program)) (sym to.plan))
+        let found = first_is_run (fault_of_run program) (entries_of pending) later in (
+          found.0,
+          ap (λ (ws : List (List Entry)). map entries_of to.works ++ ws) (sym found.1)
+              ∙ sym (run_behind program to.works (window_with (entries_of pending) ++ later) to.before) ∙ ap (windows_run (fault_of_run program)) (sym to.plan),
+        )
 
     module _ (stops : List Pieced → S → S → Type 0) where
       -- it was told, and memory ended behind it
@@ -254,9 +258,12 @@ module _ {S : Type 0} (tells : List Pieced → Window → S → S → Type 0) (p
       → (now : Option (List Window)) (new : S) → ToldAs tells (window_with pending) told now mid new → fault_of_run program ≡ None → HasTold tells program known now start new
   told_as_all pending told mid to now new one none = record {
     works = to.works ++ window_with pending;
-    plan =
-        (to.first, to.opening, sym (ap (λ fault. windows_run fault (windows_of [] (steps_of to.first 0 program.order))) none
-        ∙ (to.plan ∙ (sym (one_more to.works pending []) ∙ append-nil (map entries_of (to.works ++ window_with pending))))));
+    plan = (
+      to.first,
+      to.opening,
+      sym (ap (λ fault. windows_run fault (windows_of [] (steps_of to.first 0 program.order))) none
+          ∙ (to.plan ∙ (sym (one_more to.works pending []) ∙ append-nil (map entries_of (to.works ++ window_with pending))))),
+    );
     told_as = both_told to.works (window_with pending) told now mid new to.told_as one;
   }
 
@@ -283,3 +290,7 @@ module _ {S T : Type 0} (tells : List Pieced → Window → S → S → Type 0) 
       | inr stopped ↦ inr (record { works = stopped.works; later = stopped.later; next = stopped.next; stopped = stop stopped.works has.mid new stopped.stopped })
     ];
   }
+
+-- what is told of the windows tells the questions
+pub asked_of : (program : Programmed) {known told : Option (List Window)} {old new : Option (List Question)} → HasTold (IsPickedFrom pieces) program known told old new → HasAsked program old new
+asked_of program has = record { works = has.works; plan = has.plan; windows = has.told_as.windows; each = has.told_as.each }

@@ -1,5 +1,5 @@
 -- Worked cases of windows.
-use Rattle.std.proofs.Common.{◌≡◌, ℕ, List, [], ◌∷◌, true, false, None, Some, refl}
+use Rattle.std.proofs.Common.{◌≡◌, ℕ, List, [], ◌∷◌, true, false, Some, refl}
 use Rattle.pooma_queue.specs.declared.queue.Mode.TheVariants.{Write}
 use Rattle.pooma_machine.specs.declared.journal.Entry.{Entry}
 use Rattle.pooma_run.specs.Steps.{Step, windows_of, windows_run}

@@ -1,4 +1,4 @@
--- How a run stands between two statements. No contract of a public call cites this.
+-- How a run stands between two statements. Of public calls only a law cites this, for `IsHere` and `Gathers`.
 use Rattle.std.specs.Prelude.{◌≡◌, ◌++◌, ◌+◌, ◌<◌, ℕ, ℤ, true, false, Option, None, Some, List, [], ◌∷◌, All, drop, length, slice_get}
 use Rattle.pooma_domain.specs.Cells.{Interval}
 use Rattle.pooma_expr.specs.declared.reduction.Reduction.{Reduction}

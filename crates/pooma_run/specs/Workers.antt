@@ -5,6 +5,10 @@ use Rattle.pooma_machine.specs.Told.{Window}
 use Rattle.pooma_machine.specs.Journal.{window_of}
 use Rattle.pooma_desk.specs.declared.sight.Noted.{Noted}
 use Rattle.pooma_desk.specs.Tokens.{Started, Token, own_calls}
+use Rattle.pooma_model.specs.Order.{Programmed}
+use Rattle.pooma_piece.specs.Meaning.{pieces}
+use Rattle.pooma_piece.specs.Pieces.{Pieced}
+use Rattle.pooma_run.specs.Told.{HasTold, HasToldFirst}
 use Rattle.pooma_run.specs.Windows.{IsWindowOf}
 
 -- the window of these works as so many workers complete it: each event stands at the seat of one of them
@@ -51,3 +55,15 @@ pub record IsDone {W V O S : Type 0} (meaning : Meaning W V O S) (workers : ℕ)
 pub record SharesOut {W V O S E : Type 0} (meaning : Meaning W V O S) (workers : ℕ) (pre : Account W V → Type 0) (post : Account W V → Result (Account W V) E → Type 0) : Type 0 where
   pub accepts : (machine : Account W V) → All (λ event. event.seat ≡ 0) machine.history → pre machine
   pub gives : (machine done : Account W V) → All (λ event. event.seat ≡ 0) machine.history → post machine (Ok done) → IsDone meaning workers machine done
+
+-- windows told by workers, whatever else is known of them
+abbrev pub SharedBy : ℕ → List Pieced → Window → Unit {0} → Unit {0} → Type 0
+SharedBy workers works window old new = IsShared pieces workers works window
+
+-- all windows of the program were told, each shared by so many workers
+abbrev pub HasShared : ℕ → Programmed → Option (List Window) → Option (List Window) → Type 0
+HasShared workers program known told = HasTold {S = Unit {0}} (SharedBy workers) program known told tt tt
+
+-- the first of them were told
+abbrev pub HasSharedFirst : ℕ → Programmed → Option (List Window) → Option (List Window) → Type 0
+HasSharedFirst workers program known told = HasToldFirst {S = Unit {0}} (SharedBy workers) (λ works old new. Unit {0}) program known told tt tt

@@ -217,7 +217,12 @@ impl Running {
                 reduction,
                 positions: _,
                 value: _,
-            } => self.give(alloc, statement.line, *scalar, gathered(*reduction, outcomes)),
+            } => self.give(
+                alloc,
+                statement.line,
+                *scalar,
+                gathered(*reduction, outcomes),
+            ),
             Action::PrintView { view } => {
                 push_view(alloc, &mut self.bytes, &self.store, view)?;
                 Ok(false)

@@ -55,7 +55,7 @@ where
 
     ghost stays = { λ old new. (new.share ≡ old.share) × (new.workers ≡ old.workers) × (new.journal.ghost_name ≡ old.journal.ghost_name) };
 
-    ghost tells = { λ works window old new. IsShared pieces old.workers works window };
+    ghost tells = { λ works window old new. IsShared pieces old.workers works window × (new.workers ≡ old.workers) };
 
     ghost stops = { λ works old new. ⊤ };
 
@@ -78,8 +78,8 @@ where
         ensures stays { (self.new.share ≡ self.old.share) × (self.new.workers ≡ self.old.workers) × (self.new.journal.ghost_name ≡ self.old.journal.ghost_name) }
         ensures objects { IfOk result (λ done. contents content_of done.objects.items ≡ (ser pieces (map arc_value works.items) (contents content_of objects.items)).objects) }
         ensures outcomes { IfOk result (λ done. done.outcomes.items ≡ (ser pieces (map arc_value works.items) (contents content_of objects.items)).outcomes) }
-        ensures told { OnOk result (TellsOne (J.told self.old.journal.now) (J.told self.new.journal.now) (λ window. IsShared pieces self.old.workers (map arc_value works.items) window)) }
-        ensures err { OnErr result (((J.told self.new.journal.now ≡ J.told self.old.journal.now) × ⊤) ⊎ TellsOne (J.told self.old.journal.now) (J.told self.new.journal.now) (λ window. IsShared pieces self.old.workers (map arc_value works.items) window)) }
+        ensures told { OnOk result (TellsOne (J.told self.old.journal.now) (J.told self.new.journal.now) (λ window. IsShared pieces self.old.workers (map arc_value works.items) window × (self.new.workers ≡ self.old.workers))) }
+        ensures err { OnErr result (((J.told self.new.journal.now ≡ J.told self.old.journal.now) × ⊤) ⊎ TellsOne (J.told self.old.journal.now) (J.told self.new.journal.now) (λ window. IsShared pieces self.old.workers (map arc_value works.items) window × (self.new.workers ≡ self.old.workers))) }
     {
         let mut machine = match Machine::<Piece>::new(alloc, objects) {
             Ok(machine) => machine,

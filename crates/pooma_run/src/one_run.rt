@@ -2,7 +2,7 @@
 ghost use Rattle.std.specs.Prelude.{◌≡◌, IfOk, OnErr, OnOk};
 ghost use Rattle.pooma_model.specs.Serial.{serial_of};
 ghost use Rattle.pooma_piece.specs.Meaning.{pieces};
-ghost use Rattle.pooma_run.specs.Told.{HasTold, HasToldFirst};
+ghost use Rattle.pooma_run.specs.Told.{HasAsked, HasTold, HasToldFirst};
 ghost use Rattle.pooma_run.specs.Windows.{IsPickedFrom, IsStopped};
 
 use crate::driver::run;
@@ -29,7 +29,10 @@ pub fn run_one<P: Picker, J: Journal<Piece>>(
     // The windows told are those of the program, each with the questions asked of it, in their order.
     ensures windows { OnOk result (HasTold (IsPickedFrom pieces) program.now (J.told journal.old) (J.told journal.new) (P.asked picker.old) (P.asked picker.new)) }
 
-    // After want of memory they are the first of them, and the questions those that were asked till then.
+    // So the questions are those of all its windows, whether or not the journal tells these.
+    ensures asked { OnOk result (HasAsked program.now (P.asked picker.old) (P.asked picker.new)) }
+
+    // After want of memory the windows are the first of them, and the questions those that were asked till then.
     ensures front { OnErr result (HasToldFirst (IsPickedFrom pieces) (IsStopped pieces) program.now (J.told journal.old) (J.told journal.new) (P.asked picker.old) (P.asked picker.new)) }
 {
     run(alloc, program, &mut OneThread::new(picker, journal))

@@ -20,8 +20,7 @@ one_more declared k shape at some = (
 all_of : (program : Programmed) (n : ℕ) → n ≡ length program.declared.shapes
     → (shapes : List Shape) × (map shape_of shapes ≡ take n program.declared.shapes) → (stale : Staled) × IsOpening program stale
 all_of program n is some =
-    let whole : map shape_of some.0 ≡ program.declared.shapes = some.1 ∙ (ap (λ k. take k program.declared.shapes) is ∙ take-length program.declared.shapes) in
-    (
+    let whole : map shape_of some.0 ≡ program.declared.shapes = some.1 ∙ (ap (λ k. take k program.declared.shapes) is ∙ take-length program.declared.shapes) in (
       record { shapes = some.0; layouts = program.declared.layouts; marks = map first_mark some.0; scalars = program.declared.scalars },
       record {
         declared = ap (λ (ss : List Shaped). record { shapes = ss; layouts = program.declared.layouts; scalars = program.declared.scalars }) whole;

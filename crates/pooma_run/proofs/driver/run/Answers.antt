@@ -1,10 +1,10 @@
-use Rattle.std.proofs.Common.{◌≡◌, ◌∙◌, refl, sym, ap, Bool, true, false, ℕ, ◌+◌, ◌≤◌, ◌∷◌, [], List, length, drop, length-drop, arith}
+use Rattle.std.proofs.Common.{◌≡◌, ◌∙◌, refl, sym, ap, Bool, true, false, ◌∷◌, [], List, length, drop, arith}
 use Rattle.std.specs.Prelude.{is_some, not}
 use Rattle.pooma_model.specs.declared.statement.Statement.{Statement}
 use Rattle.pooma_model.specs.Fit.{IsFit}
 use Rattle.pooma_run.specs.Plan.{steps_of}
 use Rattle.pooma_run.specs.Steps.{windows_of}
-use Rattle.pooma_run.specs.Told.{TellsTo, entries_of}
+use Rattle.pooma_run.specs.Told.{entries_of}
 use Rattle.pooma_run.specs.Underway.{Kept}
 use Rattle.pooma_run.proofs.Beginning.{holds_of_next, last_serial, last_told, left_behind}
 use Rattle.pooma_run.proofs.Performed.{below_all, fewer_pending}

@@ -1,4 +1,4 @@
-use Rattle.std.proofs.Common.{◌≡◌, ◌≤◌, List, drop, length}
+use Rattle.std.proofs.Common.{◌≡◌, ◌≤◌, drop, length}
 use Rattle.pooma_run.specs.Told.{TellsUpTo}
 use Rattle.pooma_run.specs.Underway.{IsUnderway}
 use Rattle.pooma_run.proofs.driver.run.Given as goal

@@ -1,16 +1,13 @@
-use Rattle.std.proofs.Common.{◌≡◌, ◌∙◌, refl, sym, ap, subst, ℕ, ◌+◌, ◌++◌, ◌∷◌, [], List, ℤ, ◌<◌, to_z, of_z, w64, length, arith, rules}
-use Rattle.std.specs.Prelude.{IfOk, slice_index_or}
-use Rattle.pooma_expr.specs.Words.{IsWord}
+use Rattle.std.proofs.Common.{◌≡◌, ◌∙◌, sym, ap, subst, ◌+◌, ◌++◌, ◌∷◌, [], List, ℤ, ◌<◌, to_z, of_z, w64, length, arith, rules}
+use Rattle.std.specs.Prelude.{slice_index_or}
 use Rattle.pooma_model.specs.Fit.{IsFit, IsPrintFit}
 use Rattle.pooma_model.specs.Texts.{row_text, view_text}
 use Rattle.pooma_view.specs.Slots.{positions_of}
 use Rattle.pooma_run.specs.Showing.{CanShow, OwnersHave}
-use Rattle.pooma_run.specs.contracts.driver.Running.{the_view}
 use Rattle.pooma_run.specs.Underway.{IsUnderway, Kept}
 use Rattle.pooma_run.proofs.Concluding.{answered, can_show, concluded_assign, concluded_block, concluded_scalar, concluded_view, scalar_there}
 use Rattle.pooma_run.proofs.Performed.{if_true}
 use Rattle.pooma_run.proofs.Reduced.{reduced_ended, reduced_on, same_pending, same_stale, some_answered}
-use Rattle.pooma_run.proofs.Turns.{on_ok}
 use Rattle.pooma_run.proofs.driver.Running.conclude.Goals as goal
 
 pub gathered-requires : goal.gathered-requires
@@ -75,8 +72,8 @@ returns-in_ok-push_view-in-PrintView-clause-stale c = ap (λ (k : Kept). k.stale
 pub index-requires : goal.index-requires
 index-requires c =
     let lt : c.in-PrintScalar.scalar < length c.self-in-PrintScalar.inside.scalars.items =
-        subst (λ (k : Kept). c.in-PrintScalar.scalar < length k.scalars) (sym c.self-in-PrintScalar.view_is)
-        (scalar_there c.laws_below.ensures c.requires.0 c.args.self.now c.requires.1 c.args.statement.now c.args.outcomes.now c.requires.2 c.in-PrintScalar.scalar c.in-PrintScalar.is) in
+    subst (λ (k : Kept). c.in-PrintScalar.scalar < length k.scalars) (sym c.self-in-PrintScalar.view_is)
+    (scalar_there c.laws_below.ensures c.requires.0 c.args.self.now c.requires.1 c.args.statement.now c.args.outcomes.now c.requires.2 c.in-PrintScalar.scalar c.in-PrintScalar.is) in
     omega (arith, c.self-in-PrintScalar.inside.scalars.ok)
 
 pub returns-in_ok-scalar_text-in-PrintScalar-clause-underway : goal.returns-in_ok-scalar_text-in-PrintScalar-clause-underway
@@ -84,9 +81,9 @@ returns-in_ok-scalar_text-in-PrintScalar-clause-underway c = λ program number h
     let x = c.index.result.now in
     let bare : to_z w64 (of_z w64 x) ≡ x = search rules in
     let bytes : c.scalar_text.new.out.items ≡ c.args.self.now.bytes ++ row_text (slice_index_or c.args.self.now.scalars c.in-PrintScalar.scalar x ∷ []) =
-        c.in_ok-scalar_text-in-PrintScalar.ensures.ok
-        ∙ (ap (λ n. c.self-in-PrintScalar.inside.bytes.items ++ row_text (n ∷ [])) (bare ∙ c.index.ensures)
-        ∙ ap (λ (k : Kept). k.bytes ++ row_text (slice_index_or k.scalars c.in-PrintScalar.scalar x ∷ [])) c.self-in-PrintScalar.view_is) in
+    c.in_ok-scalar_text-in-PrintScalar.ensures.ok
+    ∙ (ap (λ n. c.self-in-PrintScalar.inside.bytes.items ++ row_text (n ∷ [])) (bare ∙ c.index.ensures)
+    ∙ ap (λ (k : Kept). k.bytes ++ row_text (slice_index_or k.scalars c.in-PrintScalar.scalar x ∷ [])) c.self-in-PrintScalar.view_is) in
     subst (λ (k : Kept). IsUnderway program (record k { bytes = c.scalar_text.new.out.items }) (number + 1)) (sym c.self-in-PrintScalar.view_is)
     (subst (λ bs. IsUnderway program (record c.args.self.now { bytes = bs }) (number + 1)) (sym bytes)
     (concluded_scalar c.laws_below.ensures program c.args.self.now number c.args.statement.now c.args.outcomes.now here c.in-PrintScalar.scalar x c.in-PrintScalar.is))

@@ -1,4 +1,4 @@
-use Rattle.std.proofs.Common.{◌≡◌, ◌∙◌, refl, sym, ap, subst, ℕ, Option, List, Some, length, map, inl, inr, ◌<◌, ◌++◌}
+use Rattle.std.proofs.Common.{◌≡◌, ◌∙◌, refl, sym, ap, subst, List, length, map, inl, inr, ◌<◌, ◌++◌}
 use Rattle.std.specs.Arc.{arc_value}
 use Rattle.std.specs.declared.alloc.Global.{Global}
 use Rattle.std.specs.declared.sync.Arc.{Arc}
@@ -14,7 +14,7 @@ use Rattle.pooma_run.specs.contracts.driver.Running.{the_view}
 use Rattle.pooma_run.specs.Outcomes.{fault_seen, seen}
 use Rattle.pooma_run.specs.Steps.{window_with}
 use Rattle.pooma_run.specs.Told.{IsCutShort, ToldAs}
-use Rattle.pooma_run.specs.Underway.{IsOf, Kept, completed, left}
+use Rattle.pooma_run.specs.Underway.{IsOf, Kept, left}
 use Rattle.pooma_run.specs.Windows.{AsksWithin}
 use Rattle.pooma_run.proofs.Faulting.{fault_holds}
 use Rattle.pooma_run.proofs.Performing.{completed_is, found_among, writes_it}

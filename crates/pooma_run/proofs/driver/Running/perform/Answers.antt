@@ -1,19 +1,17 @@
-use Rattle.std.proofs.Common.{◌≡◌, ◌∙◌, sym, ap, subst, ℕ, ℤ, ◌+◌, ◌⊎◌, ◌≤◌, Option, List, true, inl, inr, length, drop, take, map, arith, ◌<◌, ◌-◌}
+use Rattle.std.proofs.Common.{◌≡◌, ◌∙◌, sym, ap, subst, ℕ, ℤ, ◌+◌, ◌⊎◌, ◌≤◌, List, true, inl, inr, length, drop, take, map, arith, ◌<◌, ◌-◌}
 use Rattle.std.specs.Arc.{arc_value}
 use Rattle.std.proofs.lemmas.List.{length-map}
 use Rattle.pooma_fill.specs.Marks.{fills_before}
-use Rattle.pooma_machine.specs.Told.{Window}
 use Rattle.pooma_model.specs.Declarations.{Declared}
 use Rattle.pooma_model.specs.Fit.{IsFit}
 use Rattle.pooma_split.specs.Splits.{declared_in}
 use Rattle.pooma_run.specs.contracts.driver.Running.{the_view}
 use Rattle.pooma_run.specs.Plan.{ends_window}
-use Rattle.pooma_run.specs.Told.{TellsUpTo}
 use Rattle.pooma_run.specs.Underway.{IsConcluding, IsOf, Kept, begins, left, with_works}
 use Rattle.pooma_run.proofs.Performed.{Performs, added_now, all_pending, begins_within, concluding_now, ended_now, first_now, short_now, tells_after, tells_now, told_by_fault, told_by_sum, underway_now, where_false, where_true}
 use Rattle.pooma_run.proofs.Performing.{with_works_is}
 use Rattle.pooma_run.proofs.Telling.{told_first}
-use Rattle.pooma_run.proofs.Turns.{on_err, on_err_so}
+use Rattle.pooma_run.proofs.Turns.{on_err}
 use Rattle.pooma_run.proofs.driver.Running.perform.Given.{Over}
 use Rattle.pooma_run.proofs.driver.Running.perform.Goals as goal
 use Rattle.pooma_run.proofs.driver.Running.perform.Goals.{After-after, After-deref-in-Some, After-end_window, else-not-ends_window-via-then-not-ends_window+else-len-lt-ENOUGH, else-not-ends_window-via-else-not-ends_window}
@@ -110,7 +108,7 @@ answered : (g : Over) (c : After-deref-in-Some g) → c.deref-in-Some.result.now
 answered g c = c.deref-in-Some.ensures.value ∙ rw c.in-Some.is at c.in_ok-outcomes.ensures.outcomes
 
 begins_at : (g : Over) (c : After-after g) → c.in_ok-begin.begin ≡ begins c.args.self.now c.args.number c.args.statement.now.action
-begins_at g c = 
+begins_at g c =
     c.in_ok-begin.ensures.begin
     ∙ (ap (λ (n : ℕ). n + length (fills_before c.self.inside.stale.layouts c.self.inside.stale c.args.number c.args.statement.now.action)) (sym (length-map c.self.inside.pending.items arc_value))
     ∙ ap (λ (k : Kept). begins k c.args.number c.args.statement.now.action) c.self.view_is)

@@ -1,4 +1,4 @@
-use Rattle.std.proofs.Common.{map, inl, inr, ◌∙◌}
+use Rattle.std.proofs.Common.{map, inl, inr, refl, ◌∙◌}
 use Rattle.std.specs.Arc.{arc_value}
 use Rattle.pooma_machine.specs.Journal.{window_of}
 use Rattle.pooma_piece.specs.Meaning.{pieces}
@@ -16,5 +16,5 @@ returns-clause-err g c =
     let err = rw plan at c.close_window.ensures.err in
     on_err_so c.close_window.result (λ either. elim either [
       | inl untold ↦ inl (untold, tt)
-      | inr told ↦ inr (window_of pieces (map arc_value c.args.works.items) c.in_ok-machine.machine.history, shared, told)
+      | inr told ↦ inr (window_of pieces (map arc_value c.args.works.items) c.in_ok-machine.machine.history, (shared, refl), told)
     ]) err
