@@ -28,3 +28,6 @@ pub mod Reduced
 pub mod Beginning
 pub mod Seated
 pub mod Shared
+pub mod Doing
+pub mod Histories
+pub mod Served

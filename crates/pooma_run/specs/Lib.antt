@@ -10,3 +10,5 @@ pub mod Underway
 pub mod Told
 pub mod Gathered
 pub mod Workers
+pub mod Doing
+pub mod Served
