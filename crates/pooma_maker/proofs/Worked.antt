@@ -1,5 +1,5 @@
 -- Draws and lines that are known from elsewhere, computed from the definitions.
-use Rattle.std.proofs.Common.{◌≡◌, ℕ, List, [], ◌∷◌, codes, map, refl}
+use Rattle.std.proofs.Common.{◌≡◌, [], ◌∷◌, codes, map, refl}
 use Rattle.std.specs.Fmt.{digits}
 use Rattle.pooma_maker.specs.Draws.{draw}
 use Rattle.pooma_maker.specs.Script.{drawn_line}

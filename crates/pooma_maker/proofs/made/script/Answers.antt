@@ -1,7 +1,7 @@
 use Rattle.std.proofs.Common.{◌≡◌, ◌∙◌, ap, ◌++◌, List, map, ℕ, arith}
 use Rattle.std.specs.List.{range_with_len}
 use Rattle.pooma_text.specs.Lines.{ended}
-use Rattle.pooma_maker.specs.Script.{drawn_line, foot, head, line_of, made_script}
+use Rattle.pooma_maker.specs.Script.{drawn_line, foot, head, made_script}
 use Rattle.pooma_maker.proofs.Drawn.{one_line_more, three_texts, two_draws_more}
 use Rattle.pooma_maker.proofs.made.script.Goals as goal
 

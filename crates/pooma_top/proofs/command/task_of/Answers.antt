@@ -1,4 +1,4 @@
-use Rattle.std.proofs.Common.{◌≡◌, ◌∙◌, sym, rules, codes, List, ◌∷◌, [], ℕ}
+use Rattle.std.proofs.Common.{◌≡◌, ◌∙◌, sym, rules, codes}
 use Rattle.std.proofs.lemmas.Slice.Eq.{bytes_eq-Decides}
 use Rattle.pooma_top.proofs.Words.{demo_of, four_words, on_none, one_word, three_words, two_words}
 use Rattle.pooma_top.proofs.command.task_of.Goals as goal

@@ -1,4 +1,4 @@
-use Rattle.std.proofs.Common.{◌≡◌, ◌∙◌, ap, ℕ, decimal, arith}
+use Rattle.std.proofs.Common.{◌≡◌, ◌∙◌, ap, decimal, arith}
 use Rattle.std.proofs.lemmas.Bool.{false≢true}
 use Rattle.pooma_top.proofs.Numerals.{not_read, read_alone}
 use Rattle.pooma_top.proofs.number.number_in.Goals as goal

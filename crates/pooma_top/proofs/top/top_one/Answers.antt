@@ -1,4 +1,3 @@
-use Rattle.std.proofs.Common.{map, string_bytes}
 use Rattle.pooma_top.specs.Output.{shown}
 use Rattle.pooma_top.proofs.Prepared.{output_asked}
 use Rattle.pooma_top.proofs.top.top_one.Goals as goal
