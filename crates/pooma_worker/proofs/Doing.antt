@@ -33,7 +33,7 @@ module _ {W V : Type 0} where
       }
 
   -- a look does no entry
-  pub works_look : (a b : Token W V) → Looks a b → Works a b
+  works_look : (a b : Token W V) → Looks a b → Works a b
   works_look a b look = record { same = look.same; more = look.more; seen = look.seen; entries = []; own = look.own ∙ sym (append-nil (own_calls a)) }
 
   -- one after the other
@@ -46,6 +46,10 @@ module _ {W V : Type 0} where
         entries = p.entries ++ q.entries;
         own = q.own ∙ (ap (λ l. l ++ calls_of b.seat q.entries) p.own ∙ (append_assoc (own_calls a) (calls_of a.seat p.entries) (calls_of b.seat q.entries) ∙ ap (λ l. own_calls a ++ l) (ap (λ s. calls_of a.seat p.entries ++ calls_of s q.entries) p.same.seat ∙ sym (flat_map-append (turns_of a.seat) p.entries q.entries))));
       }
+
+  -- a look adds no call
+  pub works_looked : (a b c : Token W V) → Works a b → Looks b c → Works a c
+  works_looked a b c works look = works_then a b c works (works_look b c look)
 
   -- an entry was dispatched, and then released
   pub works_one : (a b c : Token W V) (j : ℕ) → Adds a b (called kind.Dispatch j a.seat) → Adds b c (called kind.Release j b.seat) → Works a c

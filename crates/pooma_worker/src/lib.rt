@@ -3,11 +3,13 @@
 //! A loop makes no calls but the desk's. It looks, dispatches an entry that may be dispatched, does the work outside the turn
 //! and releases it. It goes on with the least entry that became ready by that release, so that a chain of entries stays with
 //! one worker, and looks again where none did or where another worker had it first. Where a look finds nothing ready, the
-//! loop waits before the next, longer each time, so that it does not keep those that have work from the turn.
+//! loop pauses before the next, longer each time, and most of the looks that follow only see whether all is released, so that
+//! it does not keep those that have work from the turn.
 #![tactic(auto)]
 
 pub use gate::{Gate, NoGate};
 pub use worker::{Worked, work_loop};
 
 mod gate;
+mod rest;
 mod worker;

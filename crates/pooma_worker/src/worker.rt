@@ -1,11 +1,11 @@
-ghost use Rattle.std.specs.Prelude.{◌≡◌, ◌<◌, ◌≤◌, false, IsTrue, IfSome, IfOk, IfErr, length};
+ghost use Rattle.std.specs.Prelude.{◌≡◌, ◌<◌, false, IsTrue, IfSome, IfOk, IfErr, length};
 ghost use Rattle.pooma_machine.specs.Values.{IsComplete, asks_of};
 ghost use Rattle.pooma_machine.specs.Causes.{Explains};
 ghost use Rattle.pooma_desk.specs.Tokens.{IsLegalFor, plan_of, history_of};
 ghost use Rattle.pooma_worker.specs.Working.{Works, CanGoOn};
 
 use crate::gate::Gate;
-use crossbeam_utils::Backoff;
+use crate::rest::Rest;
 use pooma_desk::{Desk, Pass};
 use pooma_law::legal_histories_tell;
 use pooma_machine::{DispatchError, Work};
@@ -40,11 +40,10 @@ pub fn work_loop<W: Work, G: Gate, R: Wait>(
     ensures legal { IsLegalFor W.meaning result.pass }
 {
     legal_histories_tell::<W>();
-    let backoff = Backoff::new();
-    let mut idle = 0;
+    let mut rest = Rest::new();
     let mut pass = pass;
     for _ in rt.forever() {
-        let (looked, look) = desk.look(rt, pass, 0);
+        let (looked, look) = desk.look(rt, pass, rest.from());
         if look.all_released {
             return Worked {
                 pass: looked,
@@ -52,7 +51,7 @@ pub fn work_loop<W: Work, G: Gate, R: Wait>(
             };
         }
         let Some(entry) = look.ready else {
-            idle = pause(&backoff, idle);
+            rest.pause(look.issued);
             pass = looked;
             continue;
         };
@@ -60,25 +59,10 @@ pub fn work_loop<W: Work, G: Gate, R: Wait>(
         if worked.short {
             return worked;
         }
-        idle = 0;
-        backoff.reset();
+        rest = Rest::new();
         pass = worked.pass;
     }
     unreachable!()
-}
-
-// Where so many looks in a row found nothing, the pause behind them grows no longer.
-const LONGEST: u32 = 6;
-
-// Waits before the next look, where so many in a row found nothing ready, and counts one more.
-fn pause(backoff: &Backoff, idle: u32) -> u32
-    requires { idle ≤ LONGEST }
-    ensures { result ≤ LONGEST }
-{
-    for _ in 0..1u32 << idle {
-        backoff.snooze();
-    }
-    (idle + 1).min(LONGEST)
 }
 
 // Does the entry, then the least that became ready by its release, and so on until none did or another worker had it first.

@@ -1,7 +1,6 @@
-use Rattle.std.proofs.Common.{arith}
 use Rattle.pooma_machine.specs.Values.{asks_of}
 use Rattle.pooma_desk.specs.Tokens.{plan_of, history_of}
-use Rattle.pooma_worker.proofs.Doing.{works_then, works_look, ready_is_there}
+use Rattle.pooma_worker.proofs.Doing.{works_then, works_looked, ready_is_there}
 use Rattle.pooma_worker.proofs.worker.work_loop.Goals as goal
 
 pub follow-worked-requires-clause-issued : goal.follow-worked-requires-clause-issued
@@ -14,10 +13,13 @@ follow-worked-requires-clause-issued g c =
 
 pub returns-then-worked-clause-works : goal.returns-then-worked-clause-works
 returns-then-worked-clause-works g c =
-    let looked = works_then c.args.pass c.loop.pass c.look-looked.result.0 c.loop.invariant.2 (works_look c.loop.pass c.look-looked.result.0 c.look-looked.ensures.looks) in
+    let looked = works_looked c.args.pass c.loop.pass c.look-looked.result.0 c.loop.invariant.2 c.look-looked.ensures.looks in
     works_then c.args.pass c.look-looked.result.0 c.follow-worked.result.pass looked c.follow-worked.ensures.works
 
 pub loop-preserved : goal.loop-preserved
 loop-preserved g c =
-    let looked = works_then c.args.pass c.loop.pass c.look-looked.result.0 c.loop.invariant.2 (works_look c.loop.pass c.look-looked.result.0 c.look-looked.ensures.looks) in
-    (tt, tt, works_then c.args.pass c.look-looked.result.0 c.follow-worked.result.pass looked c.follow-worked.ensures.works, omega arith)
+    let looked = works_looked c.args.pass c.loop.pass c.look-looked.result.0 c.loop.invariant.2 c.look-looked.ensures.looks in
+    (tt, tt, works_then c.args.pass c.look-looked.result.0 c.follow-worked.result.pass looked c.follow-worked.ensures.works)
+
+pub loop-preserved-in_default : goal.loop-preserved-in_default
+loop-preserved-in_default g c = (tt, tt, works_looked c.args.pass c.loop.pass c.look-looked.result.0 c.loop.invariant.2 c.look-looked.ensures.looks)

@@ -1,8 +1,7 @@
-use Rattle.std.proofs.Common.{◌≤◌}
 use Rattle.pooma_worker.specs.Working.{Works}
 use Rattle.pooma_worker.proofs.worker.work_loop.Given as goal
 
 abbrev pub invariant-loop : goal.invariant-loop
 invariant-loop g l =
     (goal.iterator-loop g).can_next l.iterator' × (goal.iterator-loop g).is_finite l.iterator'
-    × Works l.initial.pass l.pass × (l.idle ≤ 6)
+    × Works l.initial.pass l.pass
