@@ -5,7 +5,7 @@
 #![tactic(auto)]
 
 use pooma_io::{ReadSource, WriteSink};
-use pooma_top::{First, Status, top_one};
+use pooma_top::{NoGate, Status, top};
 use std::env;
 use std::io::{self, ErrorKind};
 use std::process::ExitCode;
@@ -24,7 +24,7 @@ fn main(rt: HostRuntime) -> ExitCode {
     };
     let mut source = ReadSource::new(rt.reader());
     let mut sink = WriteSink::new(io::writer(&rt));
-    let status = top_one(rt.alloc(), &words, &mut source, &mut sink, &mut First);
+    let status = top(&rt, rt.alloc(), &words, &mut source, &mut sink, &NoGate);
     ExitCode::from(status.number())
 }
 

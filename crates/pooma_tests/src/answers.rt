@@ -3,8 +3,8 @@ use crate::run::{first_wrong, run};
 use pooma_top::Status;
 use std::alloc::{AllocError, Global};
 
-// Scripts that run to their end, with what they print.
-const PRINTED: &[(&[u8], &[u8])] = &[
+/// Scripts that run to their end, with what they print.
+pub const PRINTED: &[(&[u8], &[u8])] = &[
     (b"brick A (0:3)\nA = 7\nprint A\n", b"7 7 7 7\n"),
     (b"brick A (-1:1)\nA = -5\nprint A # x\n", b"-5 -5 -5\n"),
     (b"brick A (0:1)\nprint A\n", b"0 0\n"),
@@ -97,8 +97,8 @@ const PRINTED: &[(&[u8], &[u8])] = &[
     (b"# only \x00\x01\xff bytes\n", b""),
 ];
 
-// Scripts of which a statement faults, with what they print and the fault.
-const FAULTED: &[(&[u8], &[u8])] = &[
+/// Scripts of which a statement faults, with what they print and the fault.
+pub const FAULTED: &[(&[u8], &[u8])] = &[
     (
         b"layout L (0:5) blocks (2)\narray A on L\narray B on L\nA = 9223372036854775807\nA[2] = 0\nB = A + 1\nprint B\n",
         b"fault line 6 at (0): overflow\n",
@@ -180,6 +180,7 @@ fn check_runs_nothing(rt: HostRuntime) {
 // Words that are of no command.
 const OTHERS: &[&[&str]] = &[
     &["run", "0"],
+    &["run", "2"],
     &["run", "65"],
     &["run", "01"],
     &["run", "+1"],
@@ -202,6 +203,7 @@ const OTHERS: &[&[&str]] = &[
     &["Make", "1", "1"],
     &["demo", "1", "2"],
     &["demo", "1", "2", "0"],
+    &["demo", "1", "2", "2"],
     &["demo", "1", "2", "65"],
     &["demo", "1", "2", "01"],
     &["demo", "1", "0", "1"],

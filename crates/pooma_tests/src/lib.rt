@@ -19,3 +19,5 @@ mod run;
 mod shown;
 #[cfg(test)]
 mod text;
+#[cfg(test)]
+mod workers;

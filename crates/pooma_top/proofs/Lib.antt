@@ -1,6 +1,6 @@
 mod Numerals
 mod OneOutput
-mod Prepared
+mod Promises
 mod Statuses
 mod Words
 mod Written

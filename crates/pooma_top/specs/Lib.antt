@@ -1,4 +1,5 @@
 pub mod Causes
 pub mod Output
+pub mod Prepared
 pub mod Status
 pub mod Tasks

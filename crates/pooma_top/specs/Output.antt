@@ -2,15 +2,14 @@
 use Rattle.std.specs.Prelude.{◌≡◌, ◌⊎◌, ℕ, ◌<◌, Bool, true, false, List, [], ◌∷◌, ◌++◌, length, codes, Option, Some}
 use Rattle.std.specs.Io.KnownBytes.{Appends}
 use Rattle.pooma_model.specs.Assigning.{Fault}
-use Rattle.pooma_model.specs.Serial.{Run}
+use Rattle.pooma_model.specs.Serial.{Run, serial_of}
 use Rattle.pooma_model.specs.Texts.{fault_text}
-use Rattle.pooma_plain.specs.Ran.{serial_of}
 use Rattle.pooma_print.specs.Texts.{refusal_text}
 use Rattle.pooma_script.specs.declared.cause.Cause.{Cause}
 use Rattle.pooma_script.specs.Scripts.{Script, IsScript, Runs, Refused}
 use Rattle.pooma_maker.specs.Script.{made_script}
 use Rattle.pooma_top.specs.declared.command.Command.{Command}
-use Rattle.pooma_top.specs.declared.command.Command.TheVariants.{RunOne, Check}
+use Rattle.pooma_top.specs.declared.command.Command.TheVariants as command
 use Rattle.pooma_top.specs.declared.command.Recipe.{Recipe}
 use Rattle.pooma_top.specs.declared.command.Task.{Task}
 use Rattle.pooma_top.specs.declared.command.Task.TheVariants.{Read, Make, Demo}
@@ -18,7 +17,7 @@ use Rattle.pooma_top.specs.declared.output.Answer.{Answer}
 use Rattle.pooma_top.specs.declared.status.Status.{Status}
 use Rattle.pooma_top.specs.declared.status.Status.TheVariants as status
 use Rattle.pooma_top.specs.Causes.{cause_text}
-use Rattle.pooma_top.specs.Tasks.{AsksFor, IsCommand, MakesScript, words_of}
+use Rattle.pooma_top.specs.Tasks.{AsksFor, IsCommand, MakesScript}
 
 pub record Output : Type 0 where
   pub bytes : List ℕ
@@ -35,12 +34,15 @@ run_output run = record { bytes = run.bytes; status = ended run.faulted }
 abbrev pub refused_output : ℕ → Cause → Output
 refused_output line why = record { bytes = refusal_text line (cause_text why); status = status.Refused }
 
+abbrev pub accepted_output : Output
+accepted_output = record { bytes = codes "ok" ++ 10 ∷ []; status = status.Done }
+
 -- What a command makes of a script: the text of a refusal; or a word that it is a program, or the program's statements done one after
--- another.
+-- another, whoever does them.
 abbrev pub output_of : Script → Command → Output
 output_of (Refused line why) command = refused_output line why
-output_of (Runs program) RunOne = run_output (serial_of program)
-output_of (Runs program) Check = record { bytes = codes "ok" ++ 10 ∷ []; status = status.Done }
+output_of (Runs program) (command.Run workers) = run_output (serial_of program)
+output_of (Runs program) command.Check = accepted_output
 
 -- the command's output for the script that the bytes are
 abbrev pub IsAnswer : Command → List ℕ → Output → Type 0
@@ -50,32 +52,41 @@ IsAnswer command bytes output = (script : Script) × IsScript bytes script × (o
 abbrev pub script_of : Recipe → List ℕ
 script_of recipe = made_script recipe.seed recipe.lines
 
+abbrev pub made_output : Recipe → Output
+made_output recipe = record { bytes = script_of recipe; status = status.Done }
+
 -- The output of a task: what its command makes of the input; or the made script, or what `run` makes of that one.
 abbrev pub IsOutputOf : Task → List ℕ → Output → Type 0
 IsOutputOf (Read command) input output = IsAnswer command input output
-IsOutputOf (Make recipe) input output = output ≡ record { bytes = script_of recipe; status = status.Done }
-IsOutputOf (Demo recipe) input output = IsAnswer RunOne (script_of recipe) output
+IsOutputOf (Make recipe) input output = output ≡ made_output recipe
+IsOutputOf (Demo recipe workers) input output = IsAnswer (command.Run workers) (script_of recipe) output
 
--- The bytes and the status for words and an input, and no bytes for other words.
-abbrev pub IsOutput : List (List ℕ) → List ℕ → Output → Type 0
-IsOutput words input output =
-    ((task : Task) × AsksFor words task × IsOutputOf task input output) ⊎ ((IsCommand words → ⊥) × (output ≡ record { bytes = []; status = status.Usage }))
+-- The bytes and the status for words and an input, where so many workers are the most that may be asked for, and no bytes for other
+-- words.
+abbrev pub IsOutput : ℕ → List (List ℕ) → List ℕ → Output → Type 0
+IsOutput most words input output =
+    ((task : Task) × AsksFor most words task × IsOutputOf task input output)
+    ⊎ ((IsCommand most words → ⊥) × (output ≡ record { bytes = []; status = status.Usage }))
 
 -- the input that a task is given: what is left to read, where that is told; a made script is the same whatever is left
 abbrev pub IsGiven : Task → Option (List ℕ) → List ℕ → Type 0
 IsGiven (Read command) left input = left ≡ Some input
 IsGiven (Make recipe) left input = Unit {0}
-IsGiven (Demo recipe) left input = Unit {0}
+IsGiven (Demo recipe workers) left input = Unit {0}
 
 -- the input that words are given
 abbrev pub IsInput : List (List ℕ) → Option (List ℕ) → List ℕ → Type 0
 IsInput words left input = (left ≡ Some input) ⊎ MakesScript words
 
--- for these words this command is done with these bytes: with what is read, or, as a run, with a made script
-abbrev pub IsDoneWith : List (List ℕ) → List ℕ → Command → List ℕ → Type 0
-IsDoneWith words input command bytes =
-    ((words ≡ words_of (Read command)) × (bytes ≡ input))
-    ⊎ ((recipe : Recipe) × (command ≡ RunOne) × (words ≡ words_of (Demo recipe)) × (bytes ≡ script_of recipe))
+-- a task does this command with these bytes: with what is read, or, as a run, with a made script
+abbrev pub IsDoneBy : Task → List ℕ → Command → List ℕ → Type 0
+IsDoneBy (Read asked) input does bytes = (asked ≡ does) × (bytes ≡ input)
+IsDoneBy (Make recipe) input does bytes = ⊥
+IsDoneBy (Demo recipe workers) input does bytes = (command.Run workers ≡ does) × (bytes ≡ script_of recipe)
+
+-- for these words this command is done with these bytes
+abbrev pub IsDoneWith : ℕ → List (List ℕ) → List ℕ → Command → List ℕ → Type 0
+IsDoneWith most words input does bytes = (task : Task) × AsksFor most words task × IsDoneBy task input does bytes
 
 -- the text of a fault is the last line
 pub record EndsInFault (bytes : List ℕ) : Type 0 where

@@ -7,8 +7,8 @@ use crate::number::number_in;
 /// What is to be done with a script.
 #[derive(Clone, Copy, Debug, PartialEq, Eq)]
 pub enum Command {
-    /// `run 1`: it is run on one worker.
-    RunOne,
+    /// `run N`: it is run by so many workers.
+    Run { workers: u32 },
     /// `check`: it is read, and nothing of it is run.
     Check,
 }
@@ -23,12 +23,12 @@ pub struct Recipe {
 /// What the words ask for.
 #[derive(Clone, Copy, Debug, PartialEq, Eq)]
 pub enum Task {
-    /// `run 1`, `check`: a script is read, and this is done with it.
+    /// `run N`, `check`: a script is read, and this is done with it.
     Read(Command),
     /// `make S K`: a made script is written.
     Make(Recipe),
-    /// `demo S K 1`: a made script is run on one worker.
-    Demo(Recipe),
+    /// `demo S K N`: a made script is run by so many workers.
+    Demo { recipe: Recipe, workers: u32 },
 }
 
 /// The greatest seed.
@@ -37,10 +37,10 @@ const MOST_SEED: u32 = 2_147_483_647;
 /// The most lines that are drawn.
 const MOST_LINES: u32 = 9_000;
 
-/// The task that these words ask for. It takes no memory.
-pub fn task_of(words: &[String]) -> Option<Task>
-    ensures found { IfSome result (λ task. AsksFor (map string_bytes words.now) task) }
-    ensures none { IfNone result (IsCommand (map string_bytes words.now) → ⊥) }
+/// The task that these words ask for, where so many workers are the most that may be asked for. It takes no memory.
+pub fn task_of(words: &[String], most: u32) -> Option<Task>
+    ensures found { IfSome result (λ task. AsksFor most (map string_bytes words.now) task) }
+    ensures none { IfNone result (IsCommand most (map string_bytes words.now) → ⊥) }
 {
     match words {
         [name] => {
@@ -53,10 +53,8 @@ pub fn task_of(words: &[String]) -> Option<Task>
             if name.as_str() != "run" {
                 return None;
             }
-            if workers.as_str() != "1" {
-                return None;
-            }
-            Some(Task::Read(Command::RunOne))
+            let workers = number_in(workers.as_str(), 1, most)?;
+            Some(Task::Read(Command::Run { workers }))
         }
         [name, seed, lines] => {
             if name.as_str() != "make" {
@@ -69,11 +67,9 @@ pub fn task_of(words: &[String]) -> Option<Task>
             if name.as_str() != "demo" {
                 return None;
             }
-            if workers.as_str() != "1" {
-                return None;
-            }
+            let workers = number_in(workers.as_str(), 1, most)?;
             let recipe = recipe_of(seed.as_str(), lines.as_str())?;
-            Some(Task::Demo(recipe))
+            Some(Task::Demo { recipe, workers })
         }
         _ => None,
     }

@@ -1,19 +1,21 @@
 //! What the program does: the words of its command, the script that was read, its run and the writing of its output.
 //!
-//! `top_one` carries the main theorem: the bytes that it writes are those of the script's statements done one after
-//! another on flat arrays.
+//! `top` and `top_one` carry the main theorem: the bytes that they write are those of the script's statements done one after
+//! another on flat arrays, whichever picker chooses the order and however many workers share the work.
 #![tactic(auto)]
 
 mod cause;
 mod command;
+mod engine;
 mod law;
-mod made;
 mod number;
 mod output;
+mod prepared;
+mod program;
 mod status;
-mod top;
 
-pub use law::{demos_run_made_scripts, one_output, outputs_by_status};
+pub use law::{demos_run_made_scripts, one_output, outputs_by_status, workers_change_nothing};
 pub use pooma_run::{First, Picker};
+pub use pooma_worker::{Gate, NoGate};
+pub use program::{top, top_one};
 pub use status::Status;
-pub use top::top_one;

@@ -1,6 +1,6 @@
 use Rattle.std.proofs.Common.{◌≡◌, ℕ, ◌++◌, ◌≤◌, List, length}
 use Rattle.std.specs.Io.KnownBytes.{Appends}
-use Rattle.pooma_top.proofs.top.write_all.Given as goal
+use Rattle.pooma_top.proofs.program.write_all.Given as goal
 
 abbrev pub invariant-loop-rest : goal.invariant-loop-rest
 invariant-loop-rest g l = record {

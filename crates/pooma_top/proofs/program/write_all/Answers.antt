@@ -1,6 +1,6 @@
 use Rattle.std.proofs.Common.{arith, refl}
 use Rattle.pooma_top.proofs.Written.{written_more}
-use Rattle.pooma_top.proofs.top.write_all.Goals as goal
+use Rattle.pooma_top.proofs.program.write_all.Goals as goal
 
 pub loop-rest-preserved : goal.loop-rest-preserved
 loop-rest-preserved g c =
