@@ -1,7 +1,0 @@
-mod GivenNumbers
-mod InsideCells
-mod LookedUp
-mod SerialSteps
-mod Walks
-mod WholeValues
-mod WorldsKept
