@@ -24,7 +24,7 @@ pub fn by_picker<P: Picker>(
     ensures asked { OnOk result (HasAsked program.now (P.asked picker.old) (P.asked picker.new)) }
 {
     let run = run_one(alloc, program, picker, &mut NoJournal)?;
-    answer_of(alloc, &run)
+    Ok(answer_of(run))
 }
 
 /// The answer to a program that is run by so many workers, 1 to 64, who call the gate before each work. The only error is want
@@ -44,17 +44,18 @@ pub fn by_workers<R: Threads + Wait + Sync, G: Gate + Sync>(
         return by_picker(alloc, program, &mut First);
     }
     let run = run_many(rt, alloc, program, workers, gate, &mut NoJournal)?;
-    answer_of(alloc, &run)
+    Ok(answer_of(run))
 }
 
-// The answer of a run that ended. The only error is want of memory.
-fn answer_of(alloc: Global, run: &Ended) -> Result<Answer, AllocError>
-    ensures { IfOk result (λ answer. shown answer ≡ run_output run.now) }
+// The answer of a run that ended.
+fn answer_of(run: Ended) -> Answer
+    ensures { shown result ≡ run_output run }
 {
-    Ok(Answer {
-        text: Vec::from_slice(alloc, run.bytes())?,
-        status: status_of(run.faulted()),
-    })
+    let status = status_of(run.faulted());
+    Answer {
+        text: run.into_bytes(),
+        status,
+    }
 }
 
 // How a run ended.
