@@ -32,6 +32,12 @@ out=$(printf '%s' "$first" | { while IFS= read -r -n 1 -d '' byte; do printf '%s
 check 'one byte at a time' 0 '7 7 7 7' $? "$out"
 out=$(./pooma demo 1 2 1 <&-); check 'a demo, with standard input closed' 0 $'387072\n387072\n624640' $? "$out"
 out=$(./pooma make 1 200 | ./pooma run 1); check 'a demo and its script' 0 "$(./pooma demo 1 200 1)" $? "$out"
+for workers in 2 8; do
+    out=$(./pooma demo 1 2 $workers); check "a demo on $workers workers" 0 $'387072\n387072\n624640' $? "$out"
+    out=$(./pooma demo 1 200 $workers); check "a long demo on $workers workers" 0 "$(./pooma demo 1 200 1)" $? "$out"
+done
+out=$(printf '%s' "$first" | ./pooma run 64); check 'the most workers' 0 '7 7 7 7' $? "$out"
+out=$(printf '%s' "$first" | ./pooma run 65); check 'one worker too many' 1 '' $? "$out"
 out=$(./pooma make 1 0); check 'a made script of no lines' 1 '' $? "$out"
 
 # The longest made script: its length, as another program made it, and its time, as the best of five.
@@ -56,9 +62,11 @@ status_of() {
 
 for script in examples/*.pooma; do
     wanted=$(cat "${script%.pooma}.out")
-    out=$(./pooma run 1 <"$script")
-    status=$?
-    check "$script" "$(status_of "$wanted")" "$wanted" $status "$out"
+    for workers in 1 4; do
+        out=$(./pooma run $workers <"$script")
+        status=$?
+        check "$script on $workers" "$(status_of "$wanted")" "$wanted" $status "$out"
+    done
 done
 
 # The examples of the reference: a block of a script, and behind it one of what it writes.
@@ -71,9 +79,11 @@ awk -v room="$blocks" '
     file { print > file }' docs/LANGUAGE.md
 for script in "$blocks"/*.pooma; do
     wanted=$(cat "${script%.pooma}.out")
-    out=$(./pooma run 1 <"$script")
-    status=$?
-    check "example ${script##*/} of the reference" "$(status_of "$wanted")" "$wanted" $status "$out"
+    for workers in 1 4; do
+        out=$(./pooma run $workers <"$script")
+        status=$?
+        check "example ${script##*/} of the reference on $workers" "$(status_of "$wanted")" "$wanted" $status "$out"
+    done
 done
 echo "program: $passed passed, $failed failed"
 [ "$failed" -eq 0 ]
