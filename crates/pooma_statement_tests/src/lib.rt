@@ -9,6 +9,8 @@ mod patches;
 #[cfg(test)]
 mod row;
 #[cfg(test)]
+mod run;
+#[cfg(test)]
 mod scene;
 #[cfg(test)]
 mod split;
