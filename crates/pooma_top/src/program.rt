@@ -75,7 +75,8 @@ pub fn top_one<S: Source, K: Sink, P: Picker>(
     // The counts of faults do not fall.
     ensures later { (S.faults source.old ≤ S.faults source.new) × (K.faults sink.old ≤ K.faults sink.new) }
 
-    // Where a program is run to its end the picker is asked the questions of its windows, and nothing where none is to be run.
+    // Where a program is run to its end the picker is asked the questions of its windows. It is asked nothing where the words ask
+    // for no run.
     ensures asked { (input bytes : List ℕ) (program : Programmed) → IsInput (map string_bytes words.now) (S.left source.old) input
         → IsDoneWith 1 (map string_bytes words.now) input (command.Run 1) bytes → IsScript bytes (Runs program)
         → IsDefined result ⊎ (result ≡ Status.WriteFault) → HasAsked program (P.asked picker.old) (P.asked picker.new) }
