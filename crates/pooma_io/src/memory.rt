@@ -11,7 +11,7 @@ use crate::source::{Failed, Source};
 use std::alloc::{AllocError, Global};
 use std::marker::Model;
 
-// Whether the call with this number is one of those that fail.
+// Whether the call with this number is one of those that fail. The list is in any order.
 fn is_listed(failing: &[u32], call: u64) -> bool
     ensures { IsTrue result ↔ Contains failing.now call }
 {
@@ -42,7 +42,8 @@ impl Model for MemorySource {
 }
 
 impl MemorySource {
-    /// A source of these bytes that was not called yet.
+    /// A source of these bytes that was not called yet. It gives at most `step` bytes a call, at least 1; `failing` has the
+    /// numbers of the calls that fail, from 1, in any order. It takes no memory.
     pub fn new(bytes: Vec<u8>, step: usize, failing: Vec<u32>) -> MemorySource
         requires { 1 ≤ step }
         ensures state { result ≡ record { left = bytes.items; step = step; failing = failing.items; calls = 0; faults = 0 } }
@@ -118,7 +119,9 @@ impl Model for MemorySink {
 }
 
 impl MemorySink {
-    /// An empty sink with room for so many bytes, all of which it takes now.
+    /// An empty sink with room for so many bytes, all of which it takes now, that was not called yet. It takes at most `step`
+    /// bytes a call, at least 1; `failing` has the numbers of the calls that fail, from 1, in any order. The only error is want
+    /// of memory.
     pub fn new(
         alloc: Global,
         room: usize,
@@ -139,7 +142,7 @@ impl MemorySink {
         })
     }
 
-    /// The bytes that the sink holds.
+    /// The bytes that the sink holds, in the order in which they were written.
     pub fn held(&self) -> &[u8]
         ensures bytes { result.now ≡ self.now.held }
         ensures within { length result.now ≤ self.now.room }

@@ -10,11 +10,13 @@ use thiserror::Error;
 /// Why not all of a source was read.
 #[derive(Clone, Copy, Debug, PartialEq, Eq, Error)]
 pub enum ReadAllError {
+    /// A read of the source failed: its count of faults rose in this call, or stands at its last value.
     #[error("a read failed")]
     ReadFault,
     /// More bytes came than the limit allows.
     #[error("too many bytes")]
     TooLong,
+    /// There was no memory to keep the bytes in.
     #[error("out of memory")]
     OutOfMemory,
 }
@@ -44,9 +46,10 @@ impl From<AllocError> for ReadAllError {
 /// How many bytes one read asks for.
 const CHUNK: usize = 4096;
 
-/// All bytes up to the end of the source, at most `limit` of them.
+/// All bytes up to the end of the source, in their order; `limit` is the most that there may be.
 ///
-/// After an error the source has lost the bytes that were taken.
+/// It reads until a read gives no byte, and at most `limit + 2` times. After an error the bytes that were taken are lost: the
+/// source goes on behind them.
 pub fn read_all<S: Source>(
     alloc: Global,
     source: &mut S,

@@ -18,14 +18,16 @@ pub fn copy_front(bytes: &[u8], buf: &mut [u8], most: usize) -> usize
 /// Bytes in room that was taken when the shelf was made.
 #[derive(Drop)]
 pub struct Shelf {
+    /// What lies on it, in the order in which it was put there.
     pub bytes: Vec<u8>,
+    /// How many bytes it can hold.
     pub room: usize,
     pub ghost within: { vec_len bytes ≤ room },
     pub ghost has_room: { room ≤ vec_capacity bytes },
 }
 
 impl Shelf {
-    /// A shelf with nothing on it and room for so many bytes, which is taken here.
+    /// A shelf with nothing on it and room for so many bytes, which is taken here. The only error is want of memory.
     pub fn new(alloc: Global, room: usize) -> Result<Shelf, AllocError>
         ensures empty { IfOk result (λ shelf. shelf.bytes.items ≡ []) }
         ensures room { IfOk result (λ shelf. shelf.room ≡ room) }
@@ -43,7 +45,8 @@ impl Shelf {
         self.bytes.len() == self.room
     }
 
-    /// Appends the first bytes of the piece: as many as there is room for, and at most `most`. Answers how many.
+    /// Appends the first bytes of the piece: as many as there is room for, and at most `most`. Answers how many. It
+    /// takes no memory.
     pub fn append(&mut self, piece: &[u8], most: usize) -> usize
         ensures count { result ≡ min most (min (length piece.now) (self.old.room - length self.old.bytes.items)) }
         ensures bytes { self.new.bytes.items ≡ self.old.bytes.items ++ take result piece.now }

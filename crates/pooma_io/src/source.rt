@@ -15,7 +15,7 @@ pub trait Source {
     /// How often the source has failed. It stands still at 2^64 - 1.
     ghost faults: { Self → ℕ };
 
-    /// How often it was read, where the source tells it.
+    /// How often it was read, where the source tells it. It may stop telling it, for good.
     ghost reads: { Self → Option ℕ } = { λ _. None };
 
     /// Takes the first bytes that are left into the front of the buffer, and answers how many. 0 into a buffer that is

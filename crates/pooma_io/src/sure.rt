@@ -32,7 +32,7 @@ impl Model for SureSource {
 }
 
 impl SureSource {
-    /// A source of these bytes that was not called yet.
+    /// A source of these bytes that was not called yet. It takes no memory.
     pub fn new(bytes: Vec<u8>) -> SureSource
         ensures state { result ≡ record { left = bytes.items; calls = 0 } }
         ensures left { ⟦<SureSource as Source>⟧.left result ≡ Some bytes.items }
@@ -91,7 +91,8 @@ impl Model for SureSink {
 }
 
 impl SureSink {
-    /// An empty sink with room for so many bytes, all of which it takes now.
+    /// An empty sink with room for so many bytes, all of which it takes now, that has not failed yet. The only error is want of
+    /// memory.
     pub fn new(alloc: Global, room: usize) -> Result<SureSink, AllocError>
         ensures state { IfOk result (λ sink. sink ≡ record { held = []; room = room; faults = 0 }) }
         ensures held { IfOk result (λ sink. ⟦<SureSink as Sink>⟧.held sink ≡ Some []) }
