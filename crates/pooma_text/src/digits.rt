@@ -1,3 +1,4 @@
+//! Numbers and their decimal digits.
 ghost use Rattle.std.specs.Prelude.{◌≡◌, ◌≢◌, ◌^◌, ◌<◌, ◌++◌, [], List, ℤ, pos, length, All, OnOk, OnErr, SomeIff};
 ghost use Rattle.std.specs.Char.{IsAsciiDigit};
 ghost use Rattle.std.specs.Fmt.{signed_decimal};

@@ -1,3 +1,4 @@
+//! The law that a line reads in one way.
 ghost use Rattle.std.specs.Prelude.{◌≡◌, ◌⊎◌, ℕ, List};
 ghost use Rattle.pooma_text.specs.declared.token.Token.{Token};
 ghost use Rattle.pooma_text.specs.Tokens.{HasStray, HasTokens};

@@ -1,3 +1,4 @@
+//! A text as its lines.
 ghost use Rattle.std.specs.Prelude.{◌≡◌, All, IfOk, map};
 ghost use Rattle.pooma_text.specs.Lines.{AreLines, IsPart, lines_of, spans_from, text_at};
 

@@ -8,18 +8,21 @@ ghost use Rattle.pooma_text.specs.Tokens.{AreBlanks, BeginsNoToken, IsBlank, IsL
 use crate::span::Span;
 use crate::token::{Token, TokenKind};
 
+// Whether a byte is space, tab or carriage return.
 fn is_blank(byte: u8) -> bool
     ensures { IsTrue result ↔ IsBlank byte }
 {
     byte == b' ' || byte == b'\t' || byte == b'\r'
 }
 
+// Whether a byte is a sign by itself.
 fn is_single_sign(byte: u8) -> bool
     ensures { IsTrue result ↔ Contains single_signs byte }
 {
     b"()[],:=+-*/%<>&|@".contains(&byte)
 }
 
+// Whether two bytes are a sign together.
 fn is_double_sign(first: u8, second: u8) -> bool
     ensures { IsTrue result ↔ Contains double_signs (first ∷ second ∷ []) }
 {

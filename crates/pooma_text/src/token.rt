@@ -1,3 +1,4 @@
+//! A line as its tokens.
 ghost use Rattle.std.specs.Prelude.{◌≡◌, ◌<◌, ◌≤◌, ◌⊎◌, List, ℕ, length, IfOk, IfErr, IsErrOf, MatchResult};
 ghost use Rattle.pooma_text.specs.declared.token.Token.{Token};
 ghost use Rattle.pooma_text.specs.Tokens.{BeginsWith, HasStray, HasTokens};
@@ -7,7 +8,7 @@ use crate::span::Span;
 use std::alloc::Global;
 use thiserror::Error;
 
-/// How many tokens a line may have.
+/// How many tokens a line may have. With more it spells no form of the language.
 pub const MOST_TOKENS: usize = 4096;
 
 /// What a token is.
@@ -17,14 +18,16 @@ pub enum TokenKind {
     Word,
     /// One or more digits.
     Number,
-    /// One of the signs.
+    /// One of `( ) [ ] , : = + - * / % < > & | @`, or one of `<= >= == != += -= *=`.
     Sign,
 }
 
 /// A token of a line: its kind, and the part of the line that it is.
 #[derive(Clone, Copy, Debug, PartialEq, Eq)]
 pub struct Token {
+    /// What it is.
     pub kind: TokenKind,
+    /// Where it stands in the line, in bytes.
     pub span: Span,
 }
 
@@ -37,13 +40,15 @@ pub enum TokenError {
     /// More than `MOST_TOKENS` tokens stand before the line's end, or before a byte that begins none.
     #[error("too many tokens")]
     TooMany,
+    /// There was no memory for the list.
     #[error("out of memory")]
     OutOfMemory,
 }
 
-/// The tokens of a line in order, each the longest that fits, without blanks and the comment.
+/// The tokens of a line in order, each the longest that fits, without blanks and the comment, which begins with `#`.
 ///
-/// The line has no line end. After any error nothing has changed.
+/// The line has no line end. Blanks are space, tab and carriage return. A byte that begins no token is an error only where it
+/// stands before the comment.
 pub fn tokens(alloc: Global, line: &[u8]) -> Result<Vec<Token>, TokenError>
     ensures found { IfOk result (λ found. HasTokens line.now found.items) }
     ensures few { IfOk result (λ found. length found.items ≤ MOST_TOKENS) }
