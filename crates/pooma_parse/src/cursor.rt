@@ -35,6 +35,7 @@ impl<'a> Model for Cursor<'a> {
     ghost invariant = { λ c. All (IsLongest c.line.now) c.tokens.now };
 }
 
+/// Whether two kinds are the same.
 fn same_kind(a: TokenKind, b: TokenKind) -> bool
     ensures { result ≡ reader.same_kind a b }
 {
@@ -100,7 +101,7 @@ impl<'a> Cursor<'a> {
         self.begins(TokenKind::Sign, text)
     }
 
-    /// Goes past this sign, where it comes next.
+    /// Goes past this sign, where it comes next, and answers whether it did.
     pub fn eat_sign(&mut self, text: &[u8]) -> bool
         ensures found { result ≡ reader.begins_sign text.now self.old }
         ensures rest { self.new ≡ (if result then reader.behind self.old else self.old) }
@@ -112,7 +113,7 @@ impl<'a> Cursor<'a> {
         found
     }
 
-    /// Goes past this word, where it comes next.
+    /// Goes past this word, where it comes next, and answers whether it did.
     pub fn eat_word(&mut self, text: &[u8]) -> bool
         ensures found { result ≡ reader.begins_word text.now self.old }
         ensures rest { self.new ≡ (if result then reader.behind self.old else self.old) }

@@ -1,3 +1,5 @@
+//! Why a line gives no form.
+
 use std::alloc::AllocError;
 use thiserror::Error;
 
@@ -7,6 +9,7 @@ pub enum LineError {
     /// The line is not blank, and is no line of the grammar.
     #[error("no line of the language")]
     Syntax,
+    /// There was no memory for the tokens or the form.
     #[error("out of memory")]
     OutOfMemory,
 }

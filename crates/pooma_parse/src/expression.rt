@@ -25,9 +25,13 @@ pub enum Place {
 /// A level whose operators may stand one behind another.
 #[derive(Clone, Copy, Debug, PartialEq, Eq)]
 pub enum Chained {
+    /// `|` between ANDs; the outermost.
     Expr,
+    /// `&` between COMPAREs.
     And,
+    /// `+` and `-` between MULs.
     Add,
+    /// `*`, `/` and `%` between UNARYs.
     Mul,
 }
 
@@ -44,6 +48,7 @@ fn operator(cursor: &Cursor<'_>, level: Chained) -> Option<RawOp>
     }
 }
 
+/// `+` or `-`, where one of them comes next.
 #[tactic(auto, unfolding(crate::specs::Reader::operator_at))]
 fn sum_operator(cursor: &Cursor<'_>) -> Option<RawOp>
     ensures { result ≡ reader.operator_at ADD cursor.now }
@@ -57,6 +62,7 @@ fn sum_operator(cursor: &Cursor<'_>) -> Option<RawOp>
     }
 }
 
+/// `*`, `/` or `%`, where one of them comes next.
 #[tactic(auto, unfolding(crate::specs::Reader::operator_at))]
 fn product_operator(cursor: &Cursor<'_>) -> Option<RawOp>
     ensures { result ≡ reader.operator_at MUL cursor.now }
@@ -72,6 +78,7 @@ fn product_operator(cursor: &Cursor<'_>) -> Option<RawOp>
     }
 }
 
+/// One of the six comparisons, where one comes next.
 #[tactic(auto, unfolding(crate::specs::Reader::operator_at))]
 fn comparison(cursor: &Cursor<'_>) -> Option<RawOp>
     ensures { result ≡ reader.operator_at COMPARE cursor.now }
@@ -93,6 +100,7 @@ fn comparison(cursor: &Cursor<'_>) -> Option<RawOp>
     }
 }
 
+/// The tree of an operator with its two operands.
 fn joined(alloc: Global, op: RawOp, left: RawExpr, right: RawExpr) -> Result<RawExpr, LineError>
     ensures { Makes (tree.Bin op left right) result }
 {
@@ -101,12 +109,14 @@ fn joined(alloc: Global, op: RawOp, left: RawExpr, right: RawExpr) -> Result<Raw
     Ok(RawExpr::Bin(op, left, right))
 }
 
+/// The tree of a minus before an operand.
 fn negated(alloc: Global, operand: RawExpr) -> Result<RawExpr, LineError>
     ensures { Makes (tree.Neg operand) result }
 {
     Ok(RawExpr::Neg(Boxed::new(alloc, operand)?))
 }
 
+/// The tree of an `abs`.
 fn absolute(alloc: Global, operand: RawExpr) -> Result<RawExpr, LineError>
     ensures { Makes (tree.Abs operand) result }
 {

@@ -8,8 +8,8 @@ pub type RawList<T> = Items<T>;
 /// What a line says. Each name is the part of the line that it is.
 #[derive(Debug, Drop)]
 pub enum RawLine {
-    /// A layout's name, the first and last number of each axis, how it is cut, and the guard layers of each axis, which
-    /// are no numbers where the line names none.
+    /// A layout's name, the first and last number of each axis, how it is cut, and the internal and external guard layers of
+    /// each axis. A list of guard layers is empty where the line leaves it out.
     Layout {
         name: Span,
         domain: RawList<(i32, i32)>,
@@ -27,7 +27,8 @@ pub enum RawLine {
         name: Span,
         layout: Span,
     },
-    /// An array over a layout whose external guards follow from its cells, with an updater for each face.
+    /// An array over a layout whose external guards follow from its cells, with an updater for each face:
+    /// the low and the high one of each axis in turn.
     Field {
         name: Span,
         layout: Span,
@@ -67,7 +68,7 @@ pub enum RawLine {
     },
     /// All pending work is done here.
     Block,
-    /// The lines up to its end are done so often.
+    /// The lines up to its `end` are done so often.
     Repeat {
         turns: i32,
     },
@@ -78,10 +79,15 @@ pub enum RawLine {
 /// How the numbers of an external guard cell follow from the cells inside, at one face.
 #[derive(Clone, Copy, Debug, PartialEq, Eq)]
 pub enum Updater4 {
+    /// It is this number.
     Constant(i64),
+    /// It is that of the cell to which it comes by going round the physical domain.
     Periodic,
+    /// It is that of its mirror image at the face.
     Reflect,
+    /// It is minus that of its mirror image at the face, as near as an i64 comes.
     Antireflect,
+    /// It lies on the line through the cell at the face and the next one inside, as near as an i64 comes.
     Extrapolate,
 }
 
@@ -110,7 +116,9 @@ pub enum RawAssign {
 /// A name, and what stands in brackets behind it, where brackets do.
 #[derive(Debug, Drop)]
 pub struct RawView {
+    /// The name, of an array or a scalar.
     pub name: Span,
+    /// What is taken of each axis, or None for a bare name.
     pub subs: Option<RawList<RawSub>>,
 }
 
@@ -119,33 +127,49 @@ pub struct RawView {
 pub enum RawSub {
     /// One cell; the axis is dropped.
     At(i32),
-    /// From a first cell to a last, with a stride.
+    /// From a first cell to a last, with a stride, which is 1 where the line leaves it out. It may be 0 or negative here.
     Range(i32, i32, i32),
 }
 
 /// What stands between two operands, and `min` and `max` of two.
 #[derive(Clone, Copy, Debug, PartialEq, Eq)]
 pub enum RawOp {
+    /// `+`
     Add,
+    /// `-`
     Sub,
+    /// `*`
     Mul,
+    /// `/`
     Div,
+    /// `%`
     Rem,
+    /// `min( , )`
     Min,
+    /// `max( , )`
     Max,
+    /// `<`
     Less,
+    /// `<=`
     LessEq,
+    /// `>`
     Greater,
+    /// `>=`
     GreaterEq,
+    /// `==`
     Equal,
+    /// `!=`
     Unequal,
+    /// `&`
     BitAnd,
+    /// `|`
     BitOr,
 }
 
 /// An expression's tree. A parenthesis is no part of it.
 #[derive(Debug, Drop)]
 pub enum RawExpr {
+    /// A literal, 0 or more: a minus before it is a tree of its own.
     Number(i64),
     /// The position's number on an axis.
     Index(i32),
@@ -155,8 +179,11 @@ pub enum RawExpr {
     Apply { stencil: Span, view: RawView },
     /// The stencil's view at an offset. It stands in a stencil's body alone.
     At(RawList<i32>),
+    /// `-` before an operand.
     Neg(Boxed<RawExpr>),
+    /// `abs( )`
     Abs(Boxed<RawExpr>),
+    /// An operator between two operands, the left one first.
     Bin(RawOp, Boxed<RawExpr>, Boxed<RawExpr>),
     /// A condition, the value where it isn't 0, and the value where it is.
     Where(Boxed<RawExpr>, Boxed<RawExpr>, Boxed<RawExpr>),

@@ -1,3 +1,4 @@
+//! The laws that a line reads in one way.
 ghost use Rattle.std.specs.Prelude.{◌≡◌, ◌⊎◌, ℕ, List};
 ghost use Rattle.pooma_text.specs.Tokens.{IsBlankLine};
 ghost use Rattle.pooma_parse.specs.declared.form.RawLine.{RawLine};

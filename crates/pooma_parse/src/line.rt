@@ -36,6 +36,7 @@ fn is_other_form(answer: &Result<RawLine, LineError>) -> bool
     matches!(answer, Err(LineError::Syntax))
 }
 
+/// The form of a declaration, where the line is one.
 #[tactic(auto, unfolding(crate::specs::Reader::read_declaration))]
 fn declaration(alloc: Global, line: &Cursor<'_>) -> Result<RawLine, LineError>
     ensures { Reads reader.read_declaration line.now result [] }
@@ -59,6 +60,7 @@ fn declaration(alloc: Global, line: &Cursor<'_>) -> Result<RawLine, LineError>
     stencil(alloc, line)
 }
 
+/// The form of a statement, a repeat or its end, where the line is one.
 #[tactic(auto, unfolding(crate::specs::Reader::read_statement))]
 fn statement(alloc: Global, line: &Cursor<'_>) -> Result<RawLine, LineError>
     ensures { Reads reader.read_statement line.now result [] }

@@ -1,9 +1,10 @@
+//! The words that are no names.
 ghost use Rattle.std.specs.Prelude.{◌≡◌, bytes_eq};
 ghost use Rattle.std.specs.List.{list_any};
 ghost use Rattle.pooma_parse.specs.Forms.{reductions};
 ghost use Rattle.pooma_parse.specs.Reader.{is_reserved};
 
-/// The words of the language that are no names.
+/// The words of the language that are no names. No form of the language has those from `script` on.
 const RESERVED: [&[u8]; 41] = [
     b"layout",
     b"blocks",

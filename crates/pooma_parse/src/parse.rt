@@ -1,3 +1,4 @@
+//! A line as its form.
 ghost use Rattle.std.specs.Prelude.{◌≡◌, All, IfOk, IfSome, IfNone, IsErrOf, MatchResult, Option, Some, None};
 ghost use Rattle.pooma_text.specs.Lines.{IsPart};
 ghost use Rattle.pooma_text.specs.Tokens.{IsBlankLine};
