@@ -1,3 +1,4 @@
+//! One block of numbers.
 ghost use Rattle.std.specs.Prelude.{◌≡◌, ◌↔◌, ℕ, ℤ, pos, false, true, List, length, replicate, IsTrue, OnOk, OnErr, IfOk};
 ghost use Rattle.pooma_compress.specs.Kept.{AreEqual};
 ghost use Rattle.pooma_domain.specs.Cells.{cells_of, IsIn};
@@ -9,7 +10,8 @@ use pooma_field::numbers_of_cells;
 use std::alloc::{AllocError, Global};
 use std::marker::Model;
 
-/// A block of an array's numbers: a box, and a number for each of its cells.
+/// A block of an array's numbers: a box, and a number for each of its cells, in the order of cells, in which the first axis is
+/// fastest.
 ///
 /// The numbers are kept as one while they are all equal. A patch is written to only once it is made `writable`.
 #[derive(Debug, Drop)]
@@ -31,7 +33,7 @@ impl Model for Patch {
 }
 
 impl Patch {
-    /// The patch of this box with the number 0 at each cell, kept as one.
+    /// The patch of this box with the number 0 at each cell, kept as one. It takes no memory.
     pub fn zeros(area: BoxN) -> Patch
         ensures content { result.content ≡ record { area = area; numbers = replicate (length (cells_of area)) (pos 0) } }
         ensures one { result.one ≡ true }
@@ -60,14 +62,14 @@ impl Patch {
         self.cells.get(self.area.place_of(c) as usize)
     }
 
-    /// Whether the numbers are kept as one.
+    /// Whether the numbers are kept as one. This is so of no patch that is writable.
     pub fn is_one(&self) -> bool
         ensures { result ≡ self.now.one }
     {
         self.cells.is_one()
     }
 
-    /// Puts a number at this cell.
+    /// Puts a number at this cell, and leaves the others. It takes no memory.
     pub fn set(&mut self, c: &Cell, v: i64)
         requires inside { IsIn self.old.content.area c.now }
         requires writable { self.old.one ≡ false }
@@ -78,7 +80,7 @@ impl Patch {
         self.cells.set(self.area.place_of(c) as usize, v);
     }
 
-    /// Puts the numbers of another patch at the cells of a box that lies in both.
+    /// Puts the numbers of another patch at the cells of a box that lies in both, and leaves the others. It takes no memory.
     pub fn copy_box(&mut self, from: &Patch, b: &BoxN)
         requires inside { (c : List ℤ) → IsIn b.now c → IsIn self.old.content.area c }
         requires there { (c : List ℤ) → IsIn b.now c → IsIn from.now.content.area c }
@@ -99,7 +101,7 @@ impl Patch {
         }
     }
 
-    /// An equal patch, kept in the same way.
+    /// An equal patch, kept in the same way. The only error is want of memory.
     pub fn copied(&self, alloc: Global) -> Result<Patch, AllocError>
         ensures { IfOk result (λ copy. copy ≡ self.now) }
     {
@@ -109,7 +111,8 @@ impl Patch {
         })
     }
 
-    /// Keeps the numbers as one if they are all equal. It looks no further than the first that differs.
+    /// Keeps the numbers as one if they are all equal. It looks no further than the first that differs, and takes
+    /// no memory.
     pub fn compress(&mut self)
         ensures content { self.new.content ≡ self.old.content }
         ensures one { IsTrue self.new.one ↔ AreEqual self.new.content.numbers }
@@ -117,7 +120,7 @@ impl Patch {
         self.cells.compress();
     }
 
-    /// Keeps each number by itself, so that it can be set. After a refusal the patch is kept as it was.
+    /// Keeps each number by itself, so that it can be set. The only error is want of memory; then the patch is kept as it was.
     pub fn writable(&mut self, alloc: Global) -> Result<(), AllocError>
         ensures content { self.new.content ≡ self.old.content }
         ensures writable { OnOk result (self.new.one ≡ false) }
