@@ -1,3 +1,4 @@
+//! The arrays of a store, and how their patches are numbered.
 ghost use Rattle.std.specs.Prelude.{◌≡◌, ◌+◌, ◌<◌, ◌≤◌, [], ◌∷◌, ◌++◌, length, OnErr, OnOk};
 ghost use Rattle.pooma_field.specs.ShapeOf.{shape_of};
 ghost use Rattle.pooma_layout.specs.Patches.{IsLayout};

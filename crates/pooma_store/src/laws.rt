@@ -1,3 +1,4 @@
+//! The laws of objects, for the proofs of the crates above. Each does nothing.
 ghost use Rattle.std.specs.Prelude.{◌≡◌, ◌≢◌, ℕ, ◌<◌, ℤ, pos, Some, List, [], ◌∷◌, ◌++◌, length, slice_get, All};
 ghost use Rattle.pooma_domain.specs.Cells.{Interval, IsIn};
 ghost use Rattle.pooma_field.specs.Numbered.{Numbered, Change, with_changes, IsFull};

@@ -1,3 +1,4 @@
+//! The store of all patches.
 ghost use Rattle.std.specs.Prelude.{◌≡◌, ◌+◌, ◌<◌, ◌≤◌, [], ◌∷◌, ◌++◌, true, false, All, length, map, IfOk, OnErr, OnOk, vec_capacity};
 ghost use Rattle.std.specs.Arc.{arc_value};
 ghost use Rattle.pooma_domain.specs.Cells.{IsIn};
@@ -43,7 +44,7 @@ impl Model for Store {
 }
 
 impl Store {
-    /// A store of no arrays.
+    /// A store of no arrays. It takes no memory.
     pub fn new(alloc: Global) -> Store
         ensures { result ≡ record { shapes = []; layouts = []; objects = []; lent = false } }
     {
@@ -88,7 +89,7 @@ impl Store {
         self.arrays.len() as u32
     }
 
-    /// The number of the object of an array's patch.
+    /// The number of the object of an array's patch, all counted from 0.
     pub fn object(&self, array: u32, patch: usize) -> u32
         requires array { array < length self.now.layouts }
         requires patch { patch < patch_count (layout_at self.now.layouts array) }
@@ -98,7 +99,7 @@ impl Store {
         self.arrays.object(array, patch)
     }
 
-    /// How many objects there are: the patches of all arrays.
+    /// How many objects there are: the patches of all arrays, at most 131,072.
     pub fn objects(&self) -> u32
         ensures value { result ≡ object_count self.now.layouts }
         ensures valid { IsStore self.now }
@@ -107,7 +108,7 @@ impl Store {
         self.arrays.objects()
     }
 
-    /// The layout of an array.
+    /// The layout of an array, by its number from 0.
     pub fn layout(&self, array: u32) -> &Layout
         requires { array < length self.now.layouts }
         ensures { result.now ≡ layout_at self.now.layouts array }
@@ -115,7 +116,7 @@ impl Store {
         self.arrays.layout(array)
     }
 
-    /// The shape of an array.
+    /// The shape of an array, by its number from 0.
     pub fn shape(&self, array: u32) -> &Shape
         requires { array < length self.now.layouts }
         ensures { shape_of result.now ≡ shape_at self.now.shapes array }
@@ -130,7 +131,8 @@ impl Store {
         self.lent
     }
 
-    /// Hands out all patches, by object number. No cell is copied.
+    /// Hands out all patches, by object number. No cell is copied. Until they are taken back by `settle`, the store has no
+    /// numbers to give.
     pub fn lend(&mut self) -> Vec<Arc<Patch>>
         requires { self.old.lent ≡ false }
         ensures patches { contents_of result.items ≡ self.old.objects }
@@ -216,6 +218,7 @@ fn compress_all(patches: &mut [Arc<Patch>])
     }
 }
 
+// Keeps a patch as one number, where it has no other owner and its numbers are all equal.
 fn compress_if_alone(patch: &mut Arc<Patch>)
     ensures content { (arc_value patch.new).content ≡ (arc_value patch.old).content }
     ensures full { IsFull (arc_value patch.new).content }
