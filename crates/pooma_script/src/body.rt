@@ -34,6 +34,7 @@ pub fn body(alloc: Global, expr: &RawExpr) -> Result<Body, AllocError>
 }
 
 #[cycle(body)]
+/// The same of a part of the body, with memory of its own.
 fn boxed(alloc: Global, expr: &Boxed<RawExpr>) -> Result<Boxed<Body>, AllocError>
     requires { All (λ offset. length offset ≤ 3) (offsets_in expr.now) }
     ensures { IfOk result (λ made. made ≡ body_of expr.now) }

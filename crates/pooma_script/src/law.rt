@@ -1,3 +1,4 @@
+//! The laws that bytes are one script.
 ghost use Rattle.std.specs.Prelude.{◌≡◌, ℕ, List};
 ghost use Rattle.pooma_script.specs.Scripts.{Script, IsScript};
 

@@ -13,14 +13,17 @@ use std::marker::Model;
 /// What a name names: the thing of this kind that has this number, counted from 0 in order of declaration.
 #[derive(Clone, Copy, Debug, PartialEq, Eq)]
 pub enum Named {
+    /// A layout with a name of its own. A brick's is none.
     Layout(usize),
     /// A brick, an array or a field.
     Array(u32),
+    /// A stencil.
     Stencil(usize),
+    /// A scalar, which further lines may give other numbers.
     Scalar(u32),
 }
 
-/// The names that lines declared, with what they name. A name is a part of the script.
+/// The names that lines declared, in this order, with what they name. A name is a part of the script.
 #[derive(Debug, Drop)]
 pub struct Names<'a> {
     entries: IndexMap<&'a [u8], Named>,

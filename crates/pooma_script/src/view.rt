@@ -19,7 +19,7 @@ fn places_on(low: i32, high: i32, step: u32) -> u64
     way as u64 / u64::from(step)
 }
 
-/// How many numbers there are, from a first one on at a stride, that do not pass a last one. None where the stride is 0.
+/// How many numbers there are, from a first one on at a stride, that do not pass a last one. 0 where the stride is 0.
 pub fn count_to(first: i32, last: i32, stride: i32) -> u64
     ensures { result ≡ count_to first last stride }
 {
