@@ -19,13 +19,17 @@ use std::alloc::{AllocError, Global};
 /// The names, the layouts and stencils that have names, the program so far, and what is counted.
 #[derive(Debug, Drop)]
 pub struct Known<'a> {
+    /// What each name names.
     pub names: Names<'a>,
+    /// The layouts that have names, by their numbers.
     pub layouts: Vec<Layout>,
+    /// The stencils, by their numbers.
     pub stencils: Vec<Stencil>,
+    /// The arrays, the scalars and the statements so far.
     pub draft: Draft,
     /// For each open repeat, the outermost first, how often a line in it is done, or `CAP` where that is more.
     pub turns: Vec<u64>,
-    /// The cells that all patches of all arrays allocate.
+    /// The cells that all patches of all arrays allocate, those of a layout once for each array over it.
     pub allocated: u64,
     /// The statements that are executed, those in repeats as often as they will be.
     pub executed: u64,

@@ -21,7 +21,7 @@ const MOST_BYTES: usize = 1_048_576;
 /// why: of its causes the first in the order of `Cause`.
 ///
 /// A repeat without an end is told of the line after the last. A script of more than 1,048,576 bytes is refused at line 0 and
-/// not looked at. Besides, the only error is want of memory.
+/// not looked at. Besides, the only error is want of memory. `docs/LANGUAGE.md` has the causes and limits in prose.
 pub fn check(alloc: Global, bytes: &[u8]) -> Result<Program, CheckError>
     ensures program { IfOk result (λ program. IsScript bytes.now (Runs program)) }
     ensures refused { IfErr result (λ error. IfRefused error (λ line why. IsScript bytes.now (Refused line why))) }
