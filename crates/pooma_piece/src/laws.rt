@@ -1,3 +1,4 @@
+//! The laws of pieces, for the proofs of the crates above. Each does nothing.
 ghost use Rattle.std.specs.Prelude.{◌≡◌, ◌↔◌, ◌<◌, ℕ, IsTrue, Some, Option, List, length, slice_get, All};
 ghost use Rattle.pooma_domain.specs.Cells.{Interval};
 ghost use Rattle.pooma_field.specs.Numbered.{Numbered};

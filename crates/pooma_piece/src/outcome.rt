@@ -9,7 +9,7 @@ use pooma_num::FaultKind;
 pub enum Outcome {
     /// The cells are set.
     Done,
-    /// What a reduction keeps of the numbers at the positions.
+    /// What a reduction keeps of the numbers at the piece's positions; those of all pieces are taken together after them.
     Value(Partial),
     /// The value at a position of the statement, the first of the piece's in order, is this fault. What the positions before
     /// it set is set, and nothing else.

@@ -16,7 +16,7 @@ use smallvec::SmallVec;
 use std::alloc::{AllocError, Global};
 use std::marker::Model;
 
-/// The most positions that a piece has.
+/// The most positions that a piece has: as many as an array has cells at the most.
 pub const MOST_POSITIONS: u64 = 4_194_304;
 
 /// Some positions of an executed statement, what is done there, and the objects whose patches it takes: one that it writes
@@ -52,7 +52,8 @@ impl Model for Piece {
 impl Piece {
     /// The piece of the executed statement of this number, counted from 0, at these positions of the statement, with the
     /// value that the code has there. `write` is the object in whose patch the task sets cells; `reads` names for each view of
-    /// the code, in order, the object in whose patch it is read. That the cells lie in those patches is asked by `run_piece`.
+    /// the code, in order, the object in whose patch it is read, and of a fill those in which its sources are. That the cells lie
+    /// in those patches is no condition here: `fits` tests it, and `run_piece` asks for it. The only error is want of memory.
     pub fn new(
         alloc: Global,
         statement: u32,

@@ -11,8 +11,10 @@ use std::alloc::{AllocError, Global};
 /// Where the patch of an object is: it is the one that is written, or one of those that are read.
 #[derive(Clone, Copy, Debug, Default)]
 pub(crate) enum Source {
+    /// The patch that is written.
     #[default]
     Written,
+    /// The patch at this place of those that are read, from 0.
     Read(usize),
 }
 

@@ -7,11 +7,11 @@ use pooma_view::View;
 /// What a piece does at each of its positions, with the value that its code has there.
 #[derive(Clone, Copy, Debug)]
 pub enum Task {
-    /// Sets the cells that this view names at the positions.
+    /// Sets the cells that this view names at the positions, each to the value there.
     Assign {
         target: View,
     },
-    /// Makes of the numbers a part of a reduction.
+    /// Makes of the values a part of a reduction, and sets no cell.
     Reduce {
         reduction: Reduction,
     },
