@@ -69,20 +69,20 @@ for script in examples/*.pooma; do
     done
 done
 
-# The examples of the reference: a block of a script, and behind it one of what it writes.
+# The examples of the documents: a block of a script, and behind it one of what it writes.
 blocks=$(mktemp -d) || exit 1
 trap 'rm -rf "$blocks"' EXIT
 awk -v room="$blocks" '
     /^```pooma$/ { count++; file = room "/" count ".pooma"; next }
     /^```text$/ { file = room "/" count ".out"; next }
     /^```/ { file = ""; next }
-    file { print > file }' docs/LANGUAGE.md
+    file { print > file }' docs/LANGUAGE.md docs/ARCHITECTURE.md README.md
 for script in "$blocks"/*.pooma; do
     wanted=$(cat "${script%.pooma}.out")
     for workers in 1 4; do
         out=$(./pooma run $workers <"$script")
         status=$?
-        check "example ${script##*/} of the reference on $workers" "$(status_of "$wanted")" "$wanted" $status "$out"
+        check "example ${script##*/} of the documents on $workers" "$(status_of "$wanted")" "$wanted" $status "$out"
     done
 done
 echo "program: $passed passed, $failed failed"
