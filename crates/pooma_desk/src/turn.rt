@@ -11,7 +11,13 @@ use crate::sight::{Leave, Note, Picked, Take};
 use pooma_machine::{Event, Machine, Work};
 use std::marker::Brand;
 use std::sync::Wait;
-use std::thread;
+use std::{hint, thread};
+
+// A pause is at the most 2 to this number of spins long.
+const LONGEST: u32 = 10;
+
+// From so many misses on a pause gives the processor away too.
+const PATIENT: u32 = 4;
 
 /// The turn, held: the place of the pass that holds it, and the machine.
 pub(crate) struct Turn<W: Work> {
@@ -69,6 +75,7 @@ impl<W: Work> Desk<W> {
             seat,
             next,
         } = pass;
+        let mut misses = 0u32;
         for _ in rt.forever() {
             if self.try_take(&mut place, seat) {
                 let machine = self.take_out(&mut place);
@@ -79,7 +86,8 @@ impl<W: Work> Desk<W> {
                     machine,
                 };
             }
-            thread::yield_now();
+            pause(misses);
+            misses = misses.saturating_add(1);
         }
         unreachable!()
     }
@@ -141,5 +149,17 @@ impl<W: Work> Desk<W> {
         drop(self.table.shared.exchange(&mut place, 0, Some(machine)));
         self.table.shared.store::<Leave>(&mut place, 0, 0);
         Pass { place, seat, next }
+    }
+}
+
+// Waits a while before the next try at the turn, longer after each miss. A waiter that yields at once costs the holder of the
+// turn the cache of its processor; one that only spins takes the processor from the holder where there are more workers than
+// processors.
+fn pause(misses: u32) {
+    for _ in 0..1u32 << misses.min(LONGEST) {
+        hint::spin_loop();
+    }
+    if misses >= PATIENT {
+        thread::yield_now();
     }
 }
