@@ -10,4 +10,5 @@ pub mod Dispatching
 pub mod Ends
 pub mod Named
 pub mod Waking
+pub mod Awaited
 pub mod Firsts

@@ -12,7 +12,7 @@ use Rattle.pooma_machine.specs.declared.step.Request.{Request}
 use Rattle.pooma_machine.specs.declared.step.Event.{Event}
 use Rattle.pooma_machine.specs.declared.step.EventKind.TheVariants as kind
 use Rattle.pooma_machine.specs.declared.step.Status.TheVariants as status
-use Rattle.pooma_machine.specs.Steps.{IsRequestList, requests_of, AsksFor, ConflictOver, Conflict, IsWaiting, NothingBlocks, event_of, status_of, is_out, is_released, next}
+use Rattle.pooma_machine.specs.Steps.{IsRequestList, requests_of, AsksFor, ConflictOver, Conflict, IsReady, IsWaiting, NothingBlocks, event_of, status_of, is_out, is_released, next}
 use Rattle.pooma_machine.specs.Became.{BecameReady, IsListOf, IsFreed, IsFreedOver, IsFreedBy, Woken, Names, Notes, with_entry}
 use Rattle.pooma_machine.specs.declared.step.Status.{Status}
 use Rattle.pooma_machine.specs.Lines.{line, IsTied}
@@ -154,7 +154,42 @@ form_at plan j form =
     nothing : IsRequestList []
     nothing i k d lt within = absurd (omega arith)
 
--- a front in which what may go on stands has what is freed over the object, and no more
+-- a front in which what may go on stands has the request of each entry that is ready and asks for the object
+pub ready_in_front : (plan : List (List Request)) (history : List Event) (queues : List Waiting) (front : List Asked) (object c : ℕ) (mode : Mode)
+    → ((k : ℕ) (asked : Asked) → MayGoOn (line queues object) k asked → Contains front asked)
+    → IsTied plan (λ i. is_released (status_of history i)) queues → IsReady plan history c → AsksFor plan c object mode
+    → Contains front (record { entry = c; mode = mode; released = is_released (status_of history c) })
+ready_in_front plan history queues front object c mode has tied ready asks = let there = tied.there c object mode asks in has there.0 asked (may there.0 there.1 there.2)
+  where
+    asked : Asked
+    asked = record { entry = c; mode = mode; released = is_released (status_of history c) }
+
+    free : (b : Asked) → Contains (line queues object) b → b.entry < c → (t : Bool) → holds_back mode b ≡ t → holds_back mode b ≡ false
+    free b in_line earlier false e = e
+    free b in_line earlier true e =
+        let stands = tied.stands object b in_line in
+        let says = holding_says mode b e in
+        let over : ConflictOver plan b.entry c object = record { one = b.mode; other = mode; asks_one = stands.0; asks_other = asks; conflicting = says.1 } in
+        let done : is_released (status_of history b.entry) ≡ true = ready.1 b.entry earlier (object, over) in
+        absurd (cc (sym says.0 ∙ (stands.1 ∙ done)))
+
+    may : (k : ℕ) → k < length (line queues object) → get_or (line queues object) k asked ≡ asked → MayGoOn (line queues object) k asked
+    may k within at =
+        record {
+          there = read;
+          unreleased = ap is_released ready.0;
+          granted = rw read (find_nothing (holds_back mode) (take k (line queues object)) (λ i d h.
+              let below : i < k = omega (arith, length-take k (line queues object)) in
+              let b = get_or (line queues object) i d in
+              let earlier : b.entry < (get_or (line queues object) k d).entry = tied.order object i k d below within in
+              let own : (get_or (line queues object) k d).entry ≡ c = ap (λ (q : Asked). q.entry) (get_or_from_slice_get (line queues object) k asked d read) in
+              rw (get_or-take k (line queues object) i d below) (free b (there_at (line queues object) i d (omega arith)) (omega arith) (holds_back mode b) refl)));
+        }
+      where
+        read : slice_get (line queues object) k ≡ Some asked
+        read = slice_get-get_or (line queues object) k asked within ∙ ap Some at
+
+-- it has what is freed over the object, and no more
 pub freed_over : (plan : List (List Request)) (history : List Event) (queues : List Waiting) (front : List Asked) (j object : ℕ) (mode : Mode) (c : ℕ)
     → front ≡ front_of (line queues object) → ((k : ℕ) (asked : Asked) → MayGoOn (line queues object) k asked → Contains front asked)
     → IsTied plan (λ i. is_released (status_of history i)) queues → All IsRequestList plan → AsksFor plan j object mode
@@ -172,42 +207,12 @@ freed_over plan history queues front j object mode c part has tied form asks = (
 
     from : IsFreedOver plan history j object c → FreedAmong plan history j mode front c
     from f =
-        let a : Asked = record { entry = c; mode = f.over.other; released = is_released (status_of history c) } in
-        let there : Contains (line queues object) a = tied.there c object f.over.other f.over.asks_other in
         let mine : f.over.one ≡ mode = one_mode (requests_of plan j) object f.over.one mode (form_at plan j form) f.over.asks_one asks in (
-          a,
-          has there.0 a (may there.0 there.1 f there.2),
+          record { entry = c; mode = f.over.other; released = is_released (status_of history c) },
+          ready_in_front plan history queues front object c f.over.other has tied f.ready f.over.asks_other,
           refl,
           record { later = f.later; conflicting = conflicts_back f.over.other mode ∙ (ap (λ m. conflicts m f.over.other) (sym mine) ∙ f.over.conflicting); ready = f.ready },
         )
-      where
-        asked : IsFreedOver plan history j object c → Asked
-        asked g = record { entry = c; mode = g.over.other; released = is_released (status_of history c) }
-
-        free : (b : Asked) → Contains (line queues object) b → b.entry < c → (g : IsFreedOver plan history j object c) → (t : Bool) → holds_back g.over.other b ≡ t → holds_back g.over.other b ≡ false
-        free b in_line earlier g false e = e
-        free b in_line earlier g true e =
-            let stands = tied.stands object b in_line in
-            let says = holding_says g.over.other b e in
-            let over : ConflictOver plan b.entry c object = record { one = b.mode; other = g.over.other; asks_one = stands.0; asks_other = g.over.asks_other; conflicting = says.1 } in
-            let done : is_released (status_of history b.entry) ≡ true = g.ready.1 b.entry earlier (object, over) in
-            absurd (cc (sym says.0 ∙ (stands.1 ∙ done)))
-
-        may : (k : ℕ) → k < length (line queues object) → (g : IsFreedOver plan history j object c) → get_or (line queues object) k (asked g) ≡ asked g → MayGoOn (line queues object) k (asked g)
-        may k within g at =
-            record {
-              there = read;
-              unreleased = ap is_released g.ready.0;
-              granted = rw read (find_nothing (holds_back g.over.other) (take k (line queues object)) (λ i d h.
-                  let below : i < k = omega (arith, length-take k (line queues object)) in
-                  let b = get_or (line queues object) i d in
-                  let earlier : b.entry < (get_or (line queues object) k d).entry = tied.order object i k d below within in
-                  let own : (get_or (line queues object) k d).entry ≡ c = ap (λ (q : Asked). q.entry) (get_or_from_slice_get (line queues object) k (asked g) d read) in
-                  rw (get_or-take k (line queues object) i d below) (free b (there_at (line queues object) i d (omega arith)) (omega arith) g (holds_back g.over.other b) refl)));
-            }
-          where
-            read : slice_get (line queues object) k ≡ Some (asked g)
-            read = slice_get-get_or (line queues object) k (asked g) within ∙ ap Some at
 
 -- an object that an entry asks for is there
 pub object_there : (plan : List (List Request)) (history : List Event) (statuses : List Status) (queues : List Waiting) (j object : ℕ) (mode : Mode) → IsKept plan history statuses queues
@@ -322,3 +327,13 @@ freed_became plan history j seat woken out (whole, list, names) = (
                   absurd (none ((list.exactly c).1 (mine.0, record { later = before; over = mine.1; ready = b.0 })))
               | inr differs ↦ subst (λ s. IsTrue (is_released s)) (status_other history kind.Release j seat i differs.1) (b.0.1 i earlier conflict)
             ]
+
+-- so what became ready by it conflicts with the released entry
+pub became_conflicts : (plan : List (List Request)) (history : List Event) (j seat : ℕ) (woken : Woken) → IsTrue (is_out (status_of history j))
+    → NamesThose (IsFreedBy plan (history ++ event_of kind.Release j seat ∷ []) j) woken
+    → (c : ℕ) → BecameReady plan history (history ++ event_of kind.Release j seat ∷ []) c → Conflict plan j c
+unfolding freed_became
+became_conflicts plan history j seat woken out (whole, list, names) c became =
+    let listed = ((freed_became plan history j seat woken out (whole, list, names)).1.exactly c).1 became in
+    let freed = (list.exactly c).0 listed in
+    (freed.0, freed.1.over)

@@ -145,6 +145,16 @@ pub record IsLeastReady (plan : List (List Request)) (history : List Event) (fro
   pub ready : IsReady plan history j
   pub before : (i : ℕ) → from ≤ i → i < j → IsReady plan history i → ⊥
 
+-- an entry may be dispatched, and asks for the object
+abbrev pub IsReadyFor : List (List Request) → List Event → ℕ → ℕ → Type 0
+IsReadyFor plan history object j = IsReady plan history j × (mode : Mode) × AsksFor plan j object mode
+
+-- the least entry not below this number that may be dispatched and asks for the object
+pub record IsLeastReadyFor (plan : List (List Request)) (history : List Event) (object from j : ℕ) : Type 0 where
+  pub not_below : from ≤ j
+  pub ready : IsReadyFor plan history object j
+  pub before : (i : ℕ) → from ≤ i → i < j → IsReadyFor plan history object i → ⊥
+
 -- no entry is out
 abbrev pub NoneOut : List Event → Type 0
 NoneOut history = (i : ℕ) → is_out (status_of history i) ≡ false

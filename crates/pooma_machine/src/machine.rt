@@ -1,9 +1,9 @@
 ghost use Rattle.std.specs.Prelude.{◌≡◌, ◌↔◌, ◌+◌, ◌-◌, ◌^◌, ◌<◌, ◌≤◌, ℕ, [], ◌∷◌, ◌++◌, Err, slice_get, Some, All, IfOk, OnOk, OnErr, IfErr, IsOk, IsTrue, IfSome, MatchOption, IsOkUnless, is_some, length, map, option_copied};
 ghost use Rattle.std.specs.Arc.{arc_value};
-ghost use Rattle.pooma_machine.specs.Steps.{NoneOut, IsLeastUnreleased, IsLeastReady, IsReady, IsHeldBack, IsDispatchedAt, IsLegal, is_out, is_released, issued, status_of, event_of};
+ghost use Rattle.pooma_machine.specs.Steps.{Conflict, NoneOut, IsLeastUnreleased, IsLeastReady, IsLeastReadyFor, IsReady, IsReadyFor, IsHeldBack, IsDispatchedAt, IsLegal, is_out, is_released, issued, status_of, event_of};
 ghost use Rattle.pooma_machine.specs.Values.{asks_of, values, IsComplete};
 ghost use Rattle.pooma_machine.specs.Slots.{contents};
-ghost use Rattle.pooma_machine.specs.Became.{TellsReady};
+ghost use Rattle.pooma_machine.specs.Became.{BecameReady, TellsReady};
 
 use crate::became::Became;
 use crate::loan::{Done, Loan};
@@ -154,7 +154,8 @@ impl<W: Work> Machine<W> {
     }
 
     /// Takes back what this machine lent to an entry that is out: the object that its work writes has the new value, and the
-    /// outcome is kept. It answers which entries became ready by it. It takes no memory, and can't be refused.
+    /// outcome is kept. It answers which entries became ready by it; each of them conflicts with the released one. It takes no
+    /// memory, and can't be refused.
     pub fn release(&mut self, seat: u32, done: Done<W>) -> Became
         requires out { IsTrue (is_out (status_of self.old.history done.entry)) }
         requires work { slice_get self.old.plan done.entry ≡ Some done.work }
@@ -164,6 +165,7 @@ impl<W: Work> Machine<W> {
         ensures opening { self.new.opening ≡ self.old.opening }
         ensures spare { self.new.spare ≡ self.old.spare }
         ensures became { TellsReady (asks_of W.meaning self.old.plan) self.old.history self.new.history result }
+        ensures freed { (c : ℕ) → BecameReady (asks_of W.meaning self.old.plan) self.old.history self.new.history c → Conflict (asks_of W.meaning self.old.plan) done.entry c }
     {
         let j = done.entry();
         let (work, value, outcome) = done.kept();
@@ -204,6 +206,16 @@ impl<W: Work> Machine<W> {
         self.table.ready_from(from)
     }
 
+    /// The least entry not below `from` that asks for this object, is waiting, and that no earlier entry holds back. None exactly
+    /// where there is none. It looks only at requests of this object, and only at those that no open write stands before.
+    pub fn ready_for(&self, object: u32, from: u32) -> Option<u32>
+        requires { object < length self.now.opening }
+        ensures there { IfSome result (λ j. j < length self.now.plan) }
+        ensures least { MatchOption result ((j : ℕ) → from ≤ j → IsReadyFor (asks_of W.meaning self.now.plan) self.now.history object j → ⊥) (IsLeastReadyFor (asks_of W.meaning self.now.plan) self.now.history object from) }
+    {
+        self.table.ready_for(object, from)
+    }
+
     /// How many entries were issued.
     pub fn issued(&self) -> u32
         ensures { result ≡ length self.now.plan }
@@ -211,10 +223,11 @@ impl<W: Work> Machine<W> {
         self.table.issued()
     }
 
-    /// The work of an entry.
+    /// The work of an entry. It asks for objects that are there.
     pub fn work(&self, j: u32) -> &W
         requires { j < length self.now.plan }
-        ensures { slice_get self.now.plan j ≡ Some result.now }
+        ensures work { slice_get self.now.plan j ≡ Some result.now }
+        ensures objects { All (λ r. r.object < length self.now.opening) (W.meaning.requests result.now) }
     {
         self.table.work(j)
     }

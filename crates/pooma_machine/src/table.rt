@@ -1,9 +1,11 @@
-ghost use Rattle.std.specs.Prelude.{◌≡◌, ◌↔◌, ◌⊎◌, ◌+◌, ◌-◌, ◌*◌, ◌^◌, ◌<◌, ◌≤◌, ℕ, List, [], ◌∷◌, ◌++◌, Some, None, slice_get, All, IfOk, OnOk, OnErr, IsOk, IfErr, IsTrue, IfSome, MatchOption, length, vec_len, vec_capacity};
+ghost use Rattle.std.specs.Prelude.{◌≡◌, ◌↔◌, ◌⊎◌, ◌+◌, ◌-◌, ◌*◌, ◌^◌, ◌<◌, ◌≤◌, ℕ, List, [], ◌∷◌, ◌++◌, Some, None, slice_get, All, Contains, IfOk, OnOk, OnErr, IsOk, IfErr, IsTrue, IfSome, MatchOption, length, vec_len, vec_capacity};
 ghost use Rattle.std.specs.Arc.{arc_value};
-ghost use Rattle.pooma_machine.specs.Steps.{IsRequestList, IsLeastUnreleased, IsLeastReady, IsReady, IsHeldBack, IsDispatchedAt, IsLegal, AsksFor, is_out, status_of, event_of};
+ghost use Rattle.pooma_machine.specs.Steps.{IsRequestList, Conflict, IsLeastUnreleased, IsLeastReady, IsLeastReadyFor, IsReady, IsReadyFor, IsHeldBack, IsDispatchedAt, IsLegal, AsksFor, is_out, status_of, event_of};
 ghost use Rattle.pooma_machine.specs.Values.{asks_of, IsComplete};
 ghost use Rattle.pooma_machine.specs.Kept.{Schedule, first_open};
-ghost use Rattle.pooma_machine.specs.Became.{IsListOf, IsFreed, IsFreedBy, IsFreedOver, Names, Notes, TellsReady};
+ghost use Rattle.pooma_queue.specs.Requests.{IsInOrder};
+ghost use Rattle.pooma_queue.specs.declared.queue.Asked.{Asked};
+ghost use Rattle.pooma_machine.specs.Became.{BecameReady, IsListOf, IsFreed, IsFreedBy, IsFreedOver, Names, Notes, TellsReady};
 
 use crate::became::Became;
 use crate::lines::{Holder, Lines};
@@ -180,6 +182,20 @@ impl<W: Work> Table<W> {
         None
     }
 
+    /// The least entry not below `from` that may be dispatched and asks for this object. None exactly where there is none.
+    pub(crate) fn ready_for(&self, object: u32, from: u32) -> Option<u32>
+        requires { object < self.now.objects }
+        ensures there { IfSome result (λ j. j < length self.now.plan) }
+        ensures least { MatchOption result ((j : ℕ) → from ≤ j → IsReadyFor (asks_of W.meaning self.now.plan) self.now.history object j → ⊥) (IsLeastReadyFor (asks_of W.meaning self.now.plan) self.now.history object from) }
+    {
+        for asked in not_earlier_than(self.lines.front(object), from) {
+            if self.check(asked.entry).is_ok() {
+                return Some(asked.entry);
+            }
+        }
+        None
+    }
+
     /// Whether the entry may be dispatched, and why not.
     pub(crate) fn check(&self, j: u32) -> Result<(), DispatchError>
         requires { j < length self.now.plan }
@@ -222,6 +238,7 @@ impl<W: Work> Table<W> {
         ensures spare { self.new.spare ≡ self.old.spare }
         ensures history { self.new.history ≡ self.old.history ++ event_of kind.Release j seat ∷ [] }
         ensures became { TellsReady (asks_of W.meaning self.old.plan) self.old.history self.new.history result }
+        ensures freed { (c : ℕ) → BecameReady (asks_of W.meaning self.old.plan) self.old.history self.new.history c → Conflict (asks_of W.meaning self.old.plan) j c }
     {
         self.mark_released(seat, j);
         self.freed_by(j)
@@ -277,6 +294,16 @@ impl<W: Work> Table<W> {
             seat,
         });
     }
+}
+
+// The requests of this entry and those behind it: they stand behind the others.
+fn not_earlier_than(requests: &[Asked], entry: u32) -> &[Asked]
+    requires { IsInOrder requests.now }
+    ensures order { IsInOrder result.now }
+    ensures of_these { (asked : Asked) → Contains result.now asked → Contains requests.now asked × (entry ≤ asked.entry) }
+    ensures all { (asked : Asked) → Contains requests.now asked → entry ≤ asked.entry → Contains result.now asked }
+{
+    &requests[requests.partition_point(|asked| asked.entry < entry)..]
 }
 
 // The first place whose status is not released, not before `from`.

@@ -7,7 +7,7 @@ use Rattle.pooma_machine.proofs.journal.entries_of.Goals as goal
 pub loop-j-preserved : goal.loop-j-preserved
 loop-j-preserved g c =
     let pushed = c.in_ok-push.ensures.items in
-    let is = c.work-work.ensures in
+    let is = c.work-work.ensures.work in
     let more = map_more (entry_of g.W.Work.meaning) c.args.machine.now.plan c.loop-j.j c.work-work.result.now (slice_get_within c.args.machine.now.plan c.loop-j.j c.work-work.result.now is) in
     let here = get_or_from_slice_get c.args.machine.now.plan c.loop-j.j c.work-work.result.now c.work-work.result.now is in
     rw (pushed, c.loop-j.invariant, more, here, c.statement.ensures, c.in_ok-from_slice.ensures, c.requests.ensures.requests) refl

@@ -22,3 +22,6 @@ invariant_of-self g c =
       c.self.invariant.1 ∙ sym (length_put c.self.inside.objects _ _),
       c.self.invariant.2,
     )
+
+pub returns-clause-freed : goal.returns-clause-freed
+returns-clause-freed g c = rw (← c.self.view_is) (rw c.entry-j.ensures at c.release-became.ensures.freed)
