@@ -1,12 +1,14 @@
 -- The list of the entries that are ready, as it is made of single entries.
-use Rattle.std.proofs.Common.{◌≡◌, ◌⊎◌, ◌↔◌, ◌+◌, ◌<◌, ◌≤◌, ℕ, false, List, length, take, get_or, Contains, sym, ◌∙◌, ap, subst, arith, inl, inr, nat_lt, min, length-take}
+use Rattle.std.proofs.Common.{◌≡◌, ◌⊎◌, ◌↔◌, ◌+◌, ◌<◌, ◌≤◌, ℕ, false, List, [], ◌∷◌, ◌++◌, refl, length, take, get_or, Contains, sym, ◌∙◌, ap, subst, arith, inl, inr, nat_lt, min, length-take}
 use Rattle.std.proofs.lemmas.Bool.Decides.{leb_tells, eqb_tells}
 use Rattle.std.proofs.lemmas.List.{take_all, get_or-take, get_or_default, take_more}
+use Rattle.std.proofs.lemmas.List.Quantifiers.{all_pairs_push}
+use Rattle.pooma_machine.proofs.Listed.{there_at}
 use Rattle.pooma_machine.specs.declared.step.Request.{Request}
 use Rattle.pooma_machine.specs.declared.step.Event.{Event}
-use Rattle.pooma_machine.specs.Steps.{IsReady, IsLeastReady}
+use Rattle.pooma_machine.specs.Steps.{Conflict, IsReady, IsLeastReady, IsReadyFor, requests_of}
 use Rattle.pooma_machine.specs.Became.{IsAscending, IsListOf}
-use Rattle.pooma_run.proofs.Lists.{behind_cases, contains_or_not}
+use Rattle.pooma_run.proofs.Lists.{behind_cases, behind_last, behind_others, contains_none, contains_or_not}
 
 -- each of these may be run
 abbrev pub AreReady : List (List Request) → List Event → List ℕ → Type 0
@@ -86,3 +88,82 @@ more_named named k old new within more put j there =
       | inl before ↦ (more j).1 (inl (put j before))
       | inr same ↦ (more j).1 (inr same)
     ]
+
+-- these are all below a number for which it holds
+pub record HasAllBelow (holds : ℕ → Type 0) (from : ℕ) (list : List ℕ) : Type 0 where
+  pub up : IsAscending list
+  pub stays : (j : ℕ) → Contains list j → holds j × (j < from)
+  pub below : (j : ℕ) → j < from → holds j → Contains list j
+
+module _ (holds : ℕ → Type 0) where
+  pub none_below : (from : ℕ) (list : List ℕ) → from ≡ 0 → list ≡ [] → HasAllBelow holds from list
+  none_below from list zero none = record {
+    up = λ i j d lt within. let empty : length list ≡ 0 = rw none refl in absurd (omega arith);
+    stays = λ j there. absurd (contains_none j (rw none at there));
+    below = λ j lt h. absurd (omega arith);
+  }
+
+  -- with the least one from there on, all below the next number are there
+  pub next_below : (from entry : ℕ) (list more : List ℕ) → HasAllBelow holds from list → from ≤ entry → holds entry → ((i : ℕ) → from ≤ i → i < entry → holds i → ⊥)
+      → more ≡ list ++ entry ∷ [] → HasAllBelow holds (entry + 1) more
+  next_below from entry list more all low here before is = record {
+    up = rw is (all_pairs_push (λ a b. a < b) list entry all.up (λ k d h. let lt : get_or list k d < from = (all.stays (get_or list k d) (there_at list k d h)).1 in omega arith));
+    stays = λ j there. elim (behind_cases list entry j (rw is at there)) [
+      | inl old ↦ let lt : j < from = (all.stays j old).1 in ((all.stays j old).0, omega arith)
+      | inr same ↦ (subst holds (sym same) here, omega (arith, same))
+    ];
+    below = λ j lt h. rw is (elim (leb_tells from j) [
+      | inr old ↦ behind_others list entry j (all.below j old.1 h)
+      | inl behind ↦ elim (eqb_tells j entry) [
+        | inl same ↦ subst (Contains (list ++ entry ∷ [])) (sym same.1) (behind_last list entry)
+        | inr other ↦ absurd (before j behind.1 (omega (arith, other.1)) h)
+      ]
+    ]);
+  }
+
+  -- where there is none from there on, these are all
+  pub all_below : (from : ℕ) (list : List ℕ) → HasAllBelow holds from list → ((j : ℕ) → from ≤ j → holds j → ⊥) → IsListOf holds list
+  all_below from list all none = record {
+    ascending = all.up;
+    exactly = λ j. (λ there. (all.stays j there).0, λ h. elim (leb_tells from j) [ inr old ↦ all.below j old.1 h | inl behind ↦ absurd (none j behind.1 h) ]);
+  }
+
+-- the new list is the old one with these entries
+abbrev pub HasThese : List ℕ → List ℕ → List ℕ → Type 0
+HasThese old these new = (j : ℕ) → Contains new j ↔ (Contains old j ⊎ Contains these j)
+
+-- the list has what is ready and asks for an object of one of these requests, what it had before, and nothing else
+pub record HasOver (plan : List (List Request)) (history : List Event) (old : List ℕ) (requests : List Request) (list : List ℕ) : Type 0 where
+  pub stays : AreReady plan history list
+  pub had : (j : ℕ) → Contains old j → Contains list j
+  pub over : (r : Request) → Contains requests r → (j : ℕ) → IsReadyFor plan history r.object j → Contains list j
+
+module _ (plan : List (List Request)) (history : List Event) (old : List ℕ) where
+  pub none_over : (requests : List Request) → requests ≡ [] → AreReady plan history old → HasOver plan history old requests old
+  none_over requests none stays = record { stays = stays; had = λ j there. there; over = λ r there j ready. absurd (contains_none r (rw none at there)) }
+
+  pub next_over : (requests : List Request) (k : ℕ) (d : Request) (list these new : List ℕ) → k < length requests → HasOver plan history old (take k requests) list
+      → IsListOf (IsReadyFor plan history (get_or requests k d).object) these → HasThese list these new → HasOver plan history old (take (k + 1) requests) new
+  next_over requests k d list these new within before ready more = record {
+    stays = λ j there. elim ((more j).0 there) [ inl had ↦ before.stays j had | inr put ↦ ((ready.exactly j).0 put).0 ];
+    had = λ j there. (more j).1 (inl (before.had j there));
+    over = λ r there j asks. elim (behind_cases (take k requests) (get_or requests k d) r (rw (take_more requests k d within) at there)) [
+      | inl earlier ↦ (more j).1 (inl (before.over r earlier j asks))
+      | inr same ↦ (more j).1 (inr ((ready.exactly j).1 (subst (λ (q : Request). IsReadyFor plan history q.object j) same asks)))
+    ];
+  }
+
+  -- where what is ready and not among the old ones conflicts with an entry, and these are its requests, the list is whole
+  pub all_over : (requests : List Request) (entry k : ℕ) (list : List ℕ) → requests ≡ requests_of plan entry → length requests ≤ k → IsAscending list
+      → ((j : ℕ) → IsReady plan history j → (Contains old j → ⊥) → Conflict plan entry j)
+      → HasOver plan history old (take k requests) list → IsListOf (IsReady plan history) list
+  all_over requests entry k list are end up freed has = record { ascending = up; exactly = λ j. (has.stays j, λ ready. by j ready (contains_or_not old j)) }
+    where
+      by : (j : ℕ) → IsReady plan history j → Contains old j ⊎ (Contains old j → ⊥) → Contains list j
+      by j ready (inl there) = has.had j there
+      by j ready (inr not) = over j ready (freed j ready not)
+        where
+          over : (j : ℕ) → IsReady plan history j → Conflict plan entry j → Contains list j
+          over j ready (object, both) =
+              let mine : Contains requests (record { object = object; mode = both.one }) = rw are both.asks_one in
+              has.over (record { object = object; mode = both.one }) (rw (take_all k requests end) mine) j (ready, both.other, both.asks_other)

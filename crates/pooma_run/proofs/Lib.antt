@@ -1,6 +1,7 @@
 pub mod Statuses
 pub mod Lists
 pub mod Ascending
+pub mod Uniting
 pub mod Choosing
 pub mod Runs
 pub mod Growth

@@ -3,8 +3,8 @@ use Rattle.std.proofs.Common.{◌≡◌, ◌≢◌, ◌↔◌, ◌<◌, ℕ, Lis
 use Rattle.std.proofs.lemmas.List.{get_or_default}
 use Rattle.pooma_machine.specs.declared.step.Request.{Request}
 use Rattle.pooma_machine.specs.declared.step.Event.{Event}
-use Rattle.pooma_machine.specs.Steps.{IsReady, status_of}
-use Rattle.pooma_machine.specs.Became.{IsListOf, Names, TellsReady, Woken}
+use Rattle.pooma_machine.specs.Steps.{Conflict, IsReady, status_of}
+use Rattle.pooma_machine.specs.Became.{BecameReady, IsListOf, Names, TellsReady, Woken}
 use Rattle.pooma_run.specs.Questions.{Question, AreAsked, Follows, question, followed_by}
 use Rattle.pooma_run.specs.Running.{HasRun, lent, ran}
 use Rattle.pooma_run.proofs.Choosing.{AreReady, IsNew}
@@ -84,3 +84,9 @@ module _ (plan : List (List Request)) (history : List Event) (list : List ℕ) (
       },
       tells.2,
     )
+
+    -- and each of these conflicts with the entry, where what became ready does
+    pub new_freed : ((j : ℕ) → BecameReady plan (lent history entry) (ran history entry) j → Conflict plan entry j)
+        → (j : ℕ) → IsReady plan (ran history entry) j → (Contains left j → ⊥) → Conflict plan entry j
+    new_freed freed j ready not =
+        freed j (ready, λ before. let other = ready_while_lent plan history entry picked_ready j before in not ((others j).1 ((list_of.exactly j).1 other.0, other.1)))

@@ -11,6 +11,7 @@ pub use one_run::run_one;
 pub use one_thread::OneThread;
 pub use picker::{First, Picker};
 pub use sharing::share_out;
+pub use works::open_store;
 pub use works_laws::{least_fault_of_histories, statements_in_works, windows_serve_positions};
 
 mod choices;

@@ -1,10 +1,10 @@
 ghost use Rattle.std.specs.Prelude.{◌≡◌, ◌≢◌, ◌⊎◌, ◌+◌, ◌*◌, ◌^◌, ◌<◌, ◌≤◌, ◌++◌, ◌∷◌, ℕ, [], List, All, Contains, IfOk, OnErr, OnOk, Some, length, map, slice_get};
 ghost use Rattle.std.specs.Arc.{arc_value};
-ghost use Rattle.pooma_machine.specs.Steps.{IsReady};
+ghost use Rattle.pooma_machine.specs.Steps.{Conflict, IsReady, IsReadyFor};
 ghost use Rattle.pooma_machine.specs.Values.{IsComplete, asks_of};
 ghost use Rattle.pooma_machine.specs.Slots.{contents};
 ghost use Rattle.pooma_machine.specs.Machine.{FitsShapes};
-ghost use Rattle.pooma_machine.specs.Became.{IsListOf, Names, TellsReady};
+ghost use Rattle.pooma_machine.specs.Became.{BecameReady, IsListOf, Names, TellsReady};
 ghost use Rattle.pooma_machine.specs.Journal.{Tells, window_of};
 ghost use Rattle.pooma_law.specs.Ser.{ser};
 ghost use Rattle.pooma_run.specs.Questions.{Question, AreAsked, followed_by};
@@ -103,7 +103,7 @@ fn run_all<W: Work, P: Picker>(
 {
     legal_histories_tell::<W>();
     let mut choices = Choices::none(alloc);
-    note_ready(&mut choices, machine)?;
+    note_ready(alloc, &mut choices, machine)?;
     while let Some(_first) = machine.least_unreleased() {
         run_next(alloc, machine, &mut choices, picker)?;
     }
@@ -138,7 +138,7 @@ fn run_next<W: Work, P: Picker>(
     let Ok(became) = run_entry(alloc, machine, entry) else {
         return Err(AllocError);
     };
-    note_became(choices, machine, &became)
+    note_became(alloc, choices, machine, entry, &became)
 }
 
 // Dispatches an entry, does its work and releases it.
@@ -153,6 +153,7 @@ fn run_entry<W: Work>(
     ensures opening { machine.new.opening ≡ machine.old.opening }
     ensures history { OnOk result (machine.new.history ≡ ran machine.old.history entry) }
     ensures became { IfOk result (λ became. TellsReady (asks_of W.meaning machine.old.plan) (lent machine.old.history entry) (ran machine.old.history entry) became) }
+    ensures freed { OnOk result ((j : ℕ) → BecameReady (asks_of W.meaning machine.old.plan) (lent machine.old.history entry) (ran machine.old.history entry) j → Conflict (asks_of W.meaning machine.old.plan) entry j) }
     ensures events { OnOk result (length machine.new.history ≤ 3 * length machine.new.plan) }
 {
     legal_histories_tell::<W>();
@@ -166,35 +167,82 @@ fn run_entry<W: Work>(
     }
 }
 
-// Puts the entries that became ready to the choices.
+// Puts the entries that became ready when this one was released to the choices.
 fn note_became<W: Work>(
+    alloc: Global,
     choices: &mut Choices,
     machine: &Machine<W>,
+    released: u32,
     became: &Became,
 ) -> Result<(), AllocError>
+    requires there { released < length machine.now.plan }
     requires stays { (j : ℕ) → Contains choices.old j → IsReady (asks_of W.meaning machine.now.plan) machine.now.history j }
     requires names { (whole : List ℕ) × IsListOf (λ j. IsReady (asks_of W.meaning machine.now.plan) machine.now.history j × (Contains choices.old j → ⊥)) whole × Names became.now whole }
+    requires freed { (j : ℕ) → IsReady (asks_of W.meaning machine.now.plan) machine.now.history j → (Contains choices.old j → ⊥) → Conflict (asks_of W.meaning machine.now.plan) released j }
     ensures { OnOk result (IsListOf (IsReady (asks_of W.meaning machine.now.plan) machine.now.history) choices.new) }
 {
     if became.more() {
-        return note_ready(choices, machine);
+        return note_freed(alloc, choices, machine, released);
     }
     for entry in became.entries() {
-        choices.put(*entry)?;
+        choices.put(alloc, *entry)?;
     }
     let _ascending = choices.as_slice();
     Ok(())
 }
 
+// Puts each ready entry that asks for an object of the released entry to the choices: what became ready is among these.
+fn note_freed<W: Work>(
+    alloc: Global,
+    choices: &mut Choices,
+    machine: &Machine<W>,
+    released: u32,
+) -> Result<(), AllocError>
+    requires there { released < length machine.now.plan }
+    requires stays { (j : ℕ) → Contains choices.old j → IsReady (asks_of W.meaning machine.now.plan) machine.now.history j }
+    requires freed { (j : ℕ) → IsReady (asks_of W.meaning machine.now.plan) machine.now.history j → (Contains choices.old j → ⊥) → Conflict (asks_of W.meaning machine.now.plan) released j }
+    ensures { OnOk result (IsListOf (IsReady (asks_of W.meaning machine.now.plan) machine.now.history) choices.new) }
+{
+    for request in machine.work(released).requests() {
+        let ready = ready_over(alloc, machine, request.object)?;
+        choices.put_all(alloc, &ready)?;
+    }
+    let _ascending = choices.as_slice();
+    Ok(())
+}
+
+// The ready entries that ask for the object, ascending.
+fn ready_over<W: Work>(
+    alloc: Global,
+    machine: &Machine<W>,
+    object: u32,
+) -> Result<Vec<u32>, AllocError>
+    requires { object < length machine.now.opening }
+    ensures { IfOk result (λ ready. IsListOf (IsReadyFor (asks_of W.meaning machine.now.plan) machine.now.history object) ready.items) }
+{
+    let issued = machine.issued();
+    let mut ready = Vec::new(alloc);
+    let mut from = 0;
+    while let Some(entry) = machine.ready_for(object, from) {
+        ready.push(entry)?;
+        from = entry + 1;
+    }
+    Ok(ready)
+}
+
 // Puts each ready entry to the choices.
-fn note_ready<W: Work>(choices: &mut Choices, machine: &Machine<W>) -> Result<(), AllocError>
+fn note_ready<W: Work>(
+    alloc: Global,
+    choices: &mut Choices,
+    machine: &Machine<W>,
+) -> Result<(), AllocError>
     requires { (j : ℕ) → Contains choices.old j → IsReady (asks_of W.meaning machine.now.plan) machine.now.history j }
     ensures { OnOk result (IsListOf (IsReady (asks_of W.meaning machine.now.plan) machine.now.history) choices.new) }
 {
     let issued = machine.issued();
     let mut from = 0;
     while let Some(entry) = machine.ready_from(from) {
-        choices.put(entry)?;
+        choices.put(alloc, entry)?;
         from = entry + 1;
     }
     let _ascending = choices.as_slice();

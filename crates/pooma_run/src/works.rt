@@ -16,8 +16,10 @@ use pooma_store::Store;
 use std::alloc::{AllocError, Global};
 use std::sync::Arc;
 
-/// The arrays of the program, all of whose numbers are 0.
-pub(crate) fn open_store(alloc: Global, program: &Program) -> Result<Store, AllocError>
+/// The arrays of a program as they are before its first statement: each has the shape and the layout that the program declares,
+/// by its number, and all its numbers are 0. All patches are at home. The only error is want of memory, and nothing stands
+/// after it.
+pub fn open_store(alloc: Global, program: &Program) -> Result<Store, AllocError>
     ensures shapes { IfOk result (λ store. store.shapes ≡ program.now.declared.shapes) }
     ensures layouts { IfOk result (λ store. store.layouts ≡ program.now.declared.layouts) }
     ensures objects { IfOk result (λ store. store.objects ≡ new_objects program.now.declared.layouts) }

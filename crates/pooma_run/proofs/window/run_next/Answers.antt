@@ -1,7 +1,7 @@
 use Rattle.std.proofs.Common.{◌<◌, ◌∷◌, [], sym, ◌∙◌, subst, append-nil}
 use Rattle.pooma_machine.specs.Values.{asks_of}
 use Rattle.pooma_run.specs.Questions.{question}
-use Rattle.pooma_run.proofs.Turns.{on_ok, on_err, followed_by_none, waiting_is_known, picked_ready, turn_asked, turn_run, left_ready, new_named}
+use Rattle.pooma_run.proofs.Turns.{on_ok, on_err, followed_by_none, waiting_is_known, picked_ready, turn_asked, turn_run, left_ready, new_freed, new_named}
 use Rattle.pooma_run.proofs.window.run_next.Goals as goal
 
 pub run_entry-requires-clause-ready : goal.run_entry-requires-clause-ready
@@ -38,6 +38,20 @@ note_became-requires-clause-names g c =
     let within = rw c.as_slice.ensures.entries at c.in-Ok.ensures.place in
     rw (c.in-Ok-run_entry.ensures.plan, c.in-Ok-run_entry.ensures.history)
     (new_named (asks_of g.W.Work.meaning c.args.machine.now.plan) c.args.machine.now.history c.args.choices.now c.requires.list c.in-Ok.place within c.take_off-entry.result c.take_off-entry.ensures.entry c.take_off-entry.new.self c.take_off-entry.ensures.others c.in-Ok-run_entry.became c.in-Ok-run_entry.ensures.became)
+
+pub note_became-requires-clause-there : goal.note_became-requires-clause-there
+note_became-requires-clause-there g c =
+    let within = rw c.as_slice.ensures.entries at c.in-Ok.ensures.place in
+    let ready = picked_ready (asks_of g.W.Work.meaning c.args.machine.now.plan) c.args.machine.now.history c.args.choices.now c.requires.list c.in-Ok.place within c.take_off-entry.result c.take_off-entry.ensures.entry in
+    let known = waiting_is_known (asks_of g.W.Work.meaning c.args.machine.now.plan) c.args.machine.now.history c.take_off-entry.result ready in
+    let number = (c.legal_histories_tell.ensures.issued c.args.machine.now.plan c.args.machine.now.history c.history-legal.ensures.legal c.take_off-entry.result).0 known in
+    rw c.in-Ok-run_entry.ensures.plan (subst (λ n. c.take_off-entry.result < n) c.history-legal.ensures.issued number)
+
+pub note_became-requires-clause-freed : goal.note_became-requires-clause-freed
+note_became-requires-clause-freed g c =
+    let within = rw c.as_slice.ensures.entries at c.in-Ok.ensures.place in
+    rw (c.in-Ok-run_entry.ensures.plan, c.in-Ok-run_entry.ensures.history)
+    (new_freed (asks_of g.W.Work.meaning c.args.machine.now.plan) c.args.machine.now.history c.args.choices.now c.requires.list c.in-Ok.place within c.take_off-entry.result c.take_off-entry.ensures.entry c.take_off-entry.new.self c.take_off-entry.ensures.others c.in-Ok-run_entry.ensures.freed)
 
 pub returns-clause-run : goal.returns-clause-run
 returns-clause-run g c =
