@@ -22,14 +22,15 @@ pub fn slabs(alloc: Global, shape: &Shape) -> Result<Vec<Slab>, AllocError>
     };
     for axis in 0..faces.dims() {
         let ends = faces.ends(axis);
-        add(&mut list, shape, axis, false, ends.low)?;
-        add(&mut list, shape, axis, true, ends.high)?;
+        add(alloc, &mut list, shape, axis, false, ends.low)?;
+        add(alloc, &mut list, shape, axis, true, ends.high)?;
     }
     Ok(list)
 }
 
 // The slab of this face more, where the total domain reaches beyond it.
 fn add(
+    _alloc: Global,
     list: &mut Vec<Slab>,
     shape: &Shape,
     axis: usize,
