@@ -77,7 +77,7 @@ impl Code {
         let tree = bind(alloc, expr, scalars)?;
         let mut operations = Vec::new(alloc);
         let mut reads = Vec::new(alloc);
-        emit(&mut operations, &mut reads, &tree)?;
+        emit(alloc, &mut operations, &mut reads, &tree)?;
         let compiled = Compiled {
             operations,
             reads,
@@ -98,7 +98,8 @@ impl Code {
         compiled.reads.as_slice()
     }
 
-    /// An equal code, which shares what this one keeps.
+    /// An equal code, which shares what this one keeps. It takes no memory; it is refused only where no further owner can be
+    /// counted.
     pub fn shared(&self) -> Result<Code, AllocError>
         ensures { IfOk result (λ code. code ≡ self.now) }
     {

@@ -6,7 +6,7 @@ ghost use Rattle.pooma_expr.specs.Trees.{depth_of, scalars_needed, views_of};
 use crate::operation::Operation;
 use crate::tree::Expr;
 use pooma_view::View;
-use std::alloc::AllocError;
+use std::alloc::{AllocError, Global};
 
 impl Expr {
     /// How high the stack gets while the expression is evaluated.
@@ -29,6 +29,7 @@ impl Expr {
 
 /// Puts the operations of an expression without scalars at the end of the code, and its views at the end of the reads.
 pub(crate) fn emit(
+    alloc: Global,
     code: &mut Vec<Operation>,
     reads: &mut Vec<View>,
     expr: &Expr,
@@ -39,35 +40,35 @@ pub(crate) fn emit(
     ensures next { OnOk result (length reads.new.items ≡ (emitted expr.now (length reads.old.items)).next) }
 {
     match expr {
-        Expr::Literal(x) => put(code, Operation::Push(*x)),
+        Expr::Literal(x) => put(alloc, code, Operation::Push(*x)),
         Expr::Scalar(_) => unreachable!(),
-        Expr::Index(axis) => put(code, Operation::PushIndex(*axis)),
+        Expr::Index(axis) => put(alloc, code, Operation::PushIndex(*axis)),
         Expr::Read(view) => {
-            put(code, Operation::PushRead(reads.len()))?;
+            put(alloc, code, Operation::PushRead(reads.len()))?;
             reads.push(*view)?;
             Ok(())
         }
         Expr::Neg(a) => {
-            emit(code, reads, a.get())?;
-            put(code, Operation::Negate)
+            emit(alloc, code, reads, a.get())?;
+            put(alloc, code, Operation::Negate)
         }
         Expr::Abs(a) => {
-            emit(code, reads, a.get())?;
-            put(code, Operation::Absolute)
+            emit(alloc, code, reads, a.get())?;
+            put(alloc, code, Operation::Absolute)
         }
         Expr::Bin(op, a, b) => {
-            emit(code, reads, a.get())?;
-            emit(code, reads, b.get())?;
-            put(code, Operation::Apply(*op))
+            emit(alloc, code, reads, a.get())?;
+            emit(alloc, code, reads, b.get())?;
+            put(alloc, code, Operation::Apply(*op))
         }
         Expr::Where(c, a, b) => {
-            emit(code, reads, c.get())?;
+            emit(alloc, code, reads, c.get())?;
             let test_end = code.len();
-            put(code, Operation::SkipIfZero(0))?;
-            emit(code, reads, a.get())?;
+            put(alloc, code, Operation::SkipIfZero(0))?;
+            emit(alloc, code, reads, a.get())?;
             let first_end = code.len();
-            put(code, Operation::Skip(0))?;
-            emit(code, reads, b.get())?;
+            put(alloc, code, Operation::Skip(0))?;
+            emit(alloc, code, reads, b.get())?;
             code[test_end] = Operation::SkipIfZero(first_end - test_end);
             code[first_end] = Operation::Skip(code.len() - first_end - 1);
             Ok(())
@@ -76,7 +77,7 @@ pub(crate) fn emit(
 }
 
 // One more operation.
-fn put(code: &mut Vec<Operation>, operation: Operation) -> Result<(), AllocError>
+fn put(_alloc: Global, code: &mut Vec<Operation>, operation: Operation) -> Result<(), AllocError>
     ensures { OnOk result (code.new.items ≡ code.old.items ++ operation ∷ []) }
 {
     code.push(operation)?;
