@@ -4,7 +4,7 @@ ghost use Rattle.pooma_domain.specs.Axes.{interval_of};
 ghost use Rattle.pooma_part.specs.Crossing.{IsCrossing, IsInner};
 
 use pooma_domain::{Axis, Strided};
-use std::alloc::AllocError;
+use std::alloc::{AllocError, Global};
 
 // The greatest number of whole steps that do not go past the way.
 fn whole_steps(way: i64, step: i64) -> i64
@@ -31,7 +31,7 @@ pub(crate) fn crossing(numbers: &Strided, border: i32) -> i64
 }
 
 // Adds the place, where it lies on the axis and is not the first.
-fn add_place(places: &mut Vec<i32>, k: i64, axis: Axis) -> Result<(), AllocError>
+fn add_place(_alloc: Global, places: &mut Vec<i32>, k: i64, axis: Axis) -> Result<(), AllocError>
     ensures { OnOk result ((j : ℤ) → Contains places.new.items j ↔ (Contains places.old.items j ⊎ (IsInner (interval_of axis) k × (k ≡ j)))) }
 {
     if k <= i64::from(axis.first) {
@@ -46,6 +46,7 @@ fn add_place(places: &mut Vec<i32>, k: i64, axis: Axis) -> Result<(), AllocError
 
 /// Adds the places of the axis, but for the first, at which the numbers come past one of the borders.
 pub(crate) fn add_crossings(
+    alloc: Global,
     places: &mut Vec<i32>,
     numbers: &Strided,
     borders: &[i32],
@@ -54,7 +55,7 @@ pub(crate) fn add_crossings(
     ensures { OnOk result ((j : ℤ) → Contains places.new.items j ↔ (Contains places.old.items j ⊎ (IsInner (interval_of axis) j × Any (λ border. IsCrossing numbers.now border j) borders.now))) }
 {
     for border in borders {
-        add_place(places, crossing(numbers, *border), axis)?;
+        add_place(alloc, places, crossing(numbers, *border), axis)?;
     }
     Ok(())
 }

@@ -77,7 +77,7 @@ fn with_parts(alloc: Global, first: &Line, later: &[BoxN]) -> Result<Vec<BoxN>, 
 {
     let mut boxes = Vec::new(alloc);
     for rest in later {
-        first.add_boxes(&mut boxes, rest)?;
+        first.add_boxes(alloc, &mut boxes, rest)?;
     }
     Ok(boxes)
 }

@@ -94,7 +94,12 @@ impl Line {
     }
 
     /// Adds the boxes of each part with the box of the later axes.
-    pub(crate) fn add_boxes(&self, boxes: &mut Vec<BoxN>, later: &BoxN) -> Result<(), AllocError>
+    pub(crate) fn add_boxes(
+        &self,
+        _alloc: Global,
+        boxes: &mut Vec<BoxN>,
+        later: &BoxN,
+    ) -> Result<(), AllocError>
         requires { All (λ part. IsBox (part ∷ later.now)) (parts_in self.now) }
         ensures { OnOk result (boxes.new.items ≡ boxes.old.items ++ map (λ part. part ∷ later.now) (parts_in self.now)) }
     {

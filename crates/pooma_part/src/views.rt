@@ -36,14 +36,26 @@ fn along_from(seen: &Seen<'_>, from: usize, n: usize) -> Option<(usize, Strided)
 }
 
 // Adds the places of the n-th axis of positions at which the view comes to another part.
-fn add_view(places: &mut Vec<i32>, seen: &Seen<'_>, n: usize, axis: Axis) -> Result<(), AllocError>
+fn add_view(
+    alloc: Global,
+    places: &mut Vec<i32>,
+    seen: &Seen<'_>,
+    n: usize,
+    axis: Axis,
+) -> Result<(), AllocError>
     ensures { OnOk result ((j : ℤ) → Contains places.new.items j ↔ (Contains places.old.items j ⊎ ChangesAt (slice_get (parts_along seen.now.layout seen.now.view.slots) n) (interval_of axis) j)) }
 {
     // For what it promises: the borders of each axis ascend.
     let _patches = seen.layout.patches();
     match along_from(seen, 0, n) {
         None => Ok(()),
-        Some((on, numbers)) => add_crossings(places, &numbers, seen.layout.borders(on), axis),
+        Some((on, numbers)) => add_crossings(
+            alloc,
+            places,
+            &numbers,
+            seen.layout.borders(on),
+            axis,
+        ),
     }
 }
 
@@ -58,7 +70,7 @@ pub(crate) fn places_on(
 {
     let mut places = Vec::new(alloc);
     for view in seen {
-        add_view(&mut places, view, n, axis)?;
+        add_view(alloc, &mut places, view, n, axis)?;
     }
     Ok(places)
 }
