@@ -1,4 +1,4 @@
-//! Tests together.
+//! Two tests as one.
 ghost use Rattle.std.specs.Prelude.{◌↔◌, IsTrue};
 
 /// Whether both tests are passed.

@@ -8,7 +8,7 @@ ghost use Rattle.pooma_script.specs.Layouts.{axes_of, layers};
 ghost use Rattle.pooma_script.specs.Tests.{AreFew, CutsInside, HasParts, IsNearZero, cut_count};
 
 use crate::cause::LimitName;
-use crate::tests::both;
+use crate::conjunction::both;
 use pooma_parse::{RawCutting, RawList};
 
 /// How many numbers an axis of these bounds has.

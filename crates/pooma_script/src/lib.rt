@@ -6,6 +6,7 @@
 
 pub mod body;
 mod cause;
+pub mod conjunction;
 pub mod count;
 pub mod declaration;
 pub mod expression;
@@ -22,7 +23,6 @@ pub mod reading;
 pub mod size;
 pub mod slot;
 pub mod stencil;
-pub mod tests;
 pub mod view;
 
 pub use cause::{Cause, CheckError, LimitName, Refusal};

@@ -63,7 +63,7 @@ impl<'a> Names<'a> {
     }
 
     /// Notes what a new name names. After want of memory it is as before.
-    pub fn declare(&mut self, name: &'a [u8], what: Named) -> Result<(), AllocError>
+    pub fn declare(&mut self, _alloc: Global, name: &'a [u8], what: Named) -> Result<(), AllocError>
         requires { lookup (bytes_eq name.now) self.old ≡ None }
         ensures ok { OnOk result (self.new ≡ self.old ++ (name.now, what) ∷ []) }
         ensures err { OnErr result (self.new ≡ self.old) }

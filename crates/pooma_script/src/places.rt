@@ -5,8 +5,8 @@ ghost use Rattle.pooma_stencil.specs.Stencils.{shrunk};
 ghost use Rattle.pooma_script.specs.Tests.{HasPositions};
 ghost use Rattle.pooma_script.specs.Views.{positions_in, positions_read};
 
+use crate::conjunction::both;
 use crate::reading::Reading;
-use crate::tests::both;
 use crate::view::{all_take_some, count_to};
 use pooma_domain::Cell;
 use pooma_parse::RawSub;

@@ -4,10 +4,10 @@ ghost use Rattle.pooma_text.specs.Lines.{text_at};
 ghost use Rattle.pooma_script.specs.Tests.{AreFew, HasFewExtents, HasFewGuards, HasFewPatches, HasNearBounds, name_declared};
 
 use crate::cause::LimitName;
+use crate::conjunction::both;
 use crate::count::patches_in;
 use crate::layout::{are_covering, are_near_zero, have_few_layers};
 use crate::part::part;
-use crate::tests::both;
 use pooma_parse::RawLine;
 
 /// Whether the line may have this number.

@@ -9,7 +9,7 @@ ghost use Rattle.pooma_domain.specs.Cells.{IsOrdered};
 ghost use Rattle.pooma_script.specs.Ends.{EndsOn, IsOn, IsShort, IsWithin};
 ghost use Rattle.pooma_script.specs.Views.{along, count_to, places_of, positions_in, slot_of};
 
-use crate::tests::both;
+use crate::conjunction::both;
 use crate::view::count_to;
 use pooma_domain::{Axis, BoxN, Strided, coordinates_of_cells};
 use pooma_parse::RawSub;

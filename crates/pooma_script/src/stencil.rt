@@ -4,7 +4,7 @@ ghost use Rattle.pooma_domain.specs.Cells.{IsIn};
 ghost use Rattle.pooma_domain.specs.Operations.{reaches};
 ghost use Rattle.pooma_script.specs.Bodies.{depth_in, offsets_in};
 
-use crate::tests::both;
+use crate::conjunction::both;
 use pooma_parse::RawExpr;
 
 /// Whether the body is no deeper than this, where a leaf is 1.

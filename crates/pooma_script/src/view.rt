@@ -4,7 +4,7 @@ ghost use Rattle.std.specs.List.{filter_map};
 ghost use Rattle.pooma_domain.specs.Cells.{IsOrdered};
 ghost use Rattle.pooma_script.specs.Views.{count_to, places_of, places_on};
 
-use crate::tests::both;
+use crate::conjunction::both;
 use pooma_parse::RawSub;
 
 /// How many places there are at a step on the way from a low number up to a high one, with the low one's.
