@@ -3,7 +3,7 @@ pub mod Borders
 pub mod Boxes
 pub mod Bricks
 pub mod Capped
-pub mod Decided
+pub mod DecidedCells
 pub mod Expressions
 pub mod Extents
 pub mod Guards

@@ -37,7 +37,9 @@ use Rattle.pooma_script.specs.Scripts.{Becomes, Goes, IsScript, Outcome, Read, R
 use Rattle.pooma_script.specs.Statements.{Task, action_of, task_of, value_depth, views_read}
 use Rattle.pooma_script.specs.Tests.{AreAxes, AreFew, CutsInside, HasDimensions, HasEqualAxes, HasEqualLengths, HasFewExtents, HasFewGuards, HasFewPatches, HasFewParts, HasNearBounds, HasNumbers, HasOwnAxes, HasParts, HasPositions, IsNearZero, IsPlaced, IsShallow, IsWithin, LiesInside, Passes, ReadsApartOf, WritesInside, cut_count, has_names, name_declared, parts_by, total_declared}
 use Rattle.pooma_script.specs.Views.{Reading, positions_read}
-use Rattle.pooma_script.proofs.Decided.{Or_not, all_or_not, as_or_not, at_most_or_not, at_most_ℤ_or_not, below_or_not, below_ℤ_or_not, both_or_not, each_cell_or_not, fails_or_not, inside_or_not, pairs_or_not, same_list_or_not, same_ℤ_or_not, some_cell_or_not, some_or_not, three_or_not, true_or_not, zip_or_not}
+use Rattle.pooma_logic.specs.Decided.{Or_not}
+use Rattle.pooma_logic.proofs.Decided.{all_or_not, as_or_not, at_most_or_not, at_most_ℤ_or_not, below_or_not, below_ℤ_or_not, both_or_not, fails_or_not, pairs_or_not, same_list_or_not, same_ℤ_or_not, some_or_not, three_or_not, true_or_not, zip_or_not}
+use Rattle.pooma_script.proofs.DecidedCells.{each_cell_or_not, inside_or_not, some_cell_or_not}
 
 -- views
 

@@ -3,7 +3,8 @@ use Rattle.std.proofs.Common.{◌≡◌, inl, inr, ⊎_elim, ℕ, zero, suc, ◌
 use Rattle.std.proofs.lemmas.Bool.{cases_eq, cases_lt}
 use Rattle.std.proofs.lemmas.Fmt.{decimal_injective}
 use Rattle.pooma_script.specs.Scripts.{Script, IsScript, Refused, Runs}
-use Rattle.pooma_script.proofs.Decided.{Or_not, as_or_not, at_most_or_not, both_or_not, same_list_or_not, three_or_not}
+use Rattle.pooma_logic.specs.Decided.{Or_not}
+use Rattle.pooma_logic.proofs.Decided.{as_or_not, at_most_or_not, both_or_not, same_list_or_not, three_or_not}
 use Rattle.pooma_top.specs.declared.command.Command.{Command}
 use Rattle.pooma_top.specs.declared.command.Command.TheVariants.{Run, Check}
 use Rattle.pooma_top.specs.declared.command.Recipe.{Recipe}

@@ -1,18 +1,12 @@
--- Whether a fact holds can be told, for numbers, lists and the cells of boxes.
-use Rattle.std.proofs.Common.{◌≡◌, ◌⊎◌, inl, inr, ⊎_elim, ℕ, zero, suc, ◌<◌, ◌≤◌, Bool, true, false, true≢false, ℤ, ◌≤ℤ◌, ◌<ℤ◌, List, [], ◌∷◌, length, Option, None, Some, refl, sym, subst, arith}
+-- Whether a fact holds can be told, for numbers and lists, and where facts are joined.
+use Rattle.std.proofs.Common.{◌≡◌, inl, inr, ⊎_elim, ℕ, zero, suc, ◌<◌, ◌≤◌, Bool, true, false, true≢false, ℤ, ◌≤ℤ◌, ◌<ℤ◌, List, [], ◌∷◌, length, Option, None, Some, refl, sym, subst, arith}
 use Rattle.std.specs.Prelude.{All, IfSome, IsTrue, Contains, slice_index_or}
 use Rattle.std.specs.List.{AllPairs, AllZip}
 use Rattle.std.proofs.lemmas.Bool.{cases_lt}
 use Rattle.std.proofs.lemmas.Int.{by_lt_z, ints}
-use Rattle.std.proofs.lemmas.List.{get_or_default}
 use Rattle.std.proofs.lemmas.List.Elements.{All-cons, All-head, All-tail}
 use Rattle.std.proofs.lemmas.List.Kept.{AllPairs-cons}
-use Rattle.pooma_domain.specs.Cells.{Interval, cells_of, IsIn}
-use Rattle.pooma_domain.proofs.CellOrder.{cells_are_in, in_are_cells}
-
--- a fact holds, or it does not
-abbrev pub Or_not : Type 0 → Type 0
-Or_not P = P ⊎ (P → ⊥)
+use Rattle.pooma_logic.specs.Decided.{Or_not}
 
 pub as_or_not : {P Q : Type 0} → (P → Q) → (Q → P) → Or_not P → Or_not Q
 as_or_not forth back (inl p) = inl (forth p)
@@ -89,32 +83,12 @@ module _ {X : Type 0} (R : X → X → Type 0) where
       as_or_not (λ h. AllPairs-cons R x xs h.0 h.1) (λ pairs. (first_of_pairs x xs pairs, rest_of_pairs x xs pairs))
       (both_or_not (all_or_not (R x) (tell x) xs) (pairs_or_not tell xs))
 
-pub inside_or_not : (box : List Interval) (c : List ℤ) → Or_not (IsIn box c)
-inside_or_not [] [] = inl tt
-inside_or_not [] (x ∷ xs) = inr (λ h. h)
-inside_or_not (axis ∷ axes) [] = inr (λ h. h)
-inside_or_not (axis ∷ axes) (x ∷ xs) = three_or_not (at_most_ℤ_or_not axis.first x) (at_most_ℤ_or_not x axis.last) (inside_or_not axes xs)
-
--- what holds of each element of a list holds of one that it contains
-of_contained : {X : Type 0} (P : X → Type 0) (xs : List X) (x : X) → All P xs → Contains xs x → P x
-of_contained P xs x all there = subst P there.2 (all there.0 x there.1)
-
-contained_at : {X : Type 0} (xs : List X) (k : ℕ) (d : X) → k < length xs → Contains xs (slice_index_or xs k d)
-contained_at xs k d within = (k, within, get_or_default xs k (slice_index_or xs k d) d within)
-
--- and so of each cell of a box
-pub each_cell_or_not : (box : List Interval) (P : List ℤ → Type 0) → ((c : List ℤ) → Or_not (P c)) → Or_not ((c : List ℤ) → IsIn box c → P c)
-each_cell_or_not box P tell =
-    as_or_not (λ all c inside. of_contained P (cells_of box) c all (in_are_cells box c inside))
-    (λ each k d within. each (slice_index_or (cells_of box) k d) (cells_are_in box (slice_index_or (cells_of box) k d) (contained_at (cells_of box) k d within)))
-    (all_or_not P tell (cells_of box))
-
 module _ {X : Type 0} (P : X → Type 0) where
   later_one : (x y : X) (xs : List X) (k : ℕ) → (P x → ⊥) → k < length (x ∷ xs) → slice_index_or (x ∷ xs) k y ≡ y → P y → Contains xs y
   later_one x y xs zero fails within is p = absurd (fails (subst P (sym is) p))
   later_one x y xs (suc k) fails within is p = (k, omega arith, is)
 
-  some_one_or_not : ((x : X) → Or_not (P x)) → (xs : List X) → Or_not ((x : X) × Contains xs x × P x)
+  pub some_one_or_not : ((x : X) → Or_not (P x)) → (xs : List X) → Or_not ((x : X) × Contains xs x × P x)
   some_one_or_not tell [] = inr (λ found. let within : found.1.0 < 0 = found.1.1 in omega arith)
   some_one_or_not tell (x ∷ xs) =
       ⊎_elim
@@ -125,9 +99,3 @@ module _ {X : Type 0} (P : X → Type 0) where
       (λ found. (found.0, later_one x found.0 xs found.1.0 fails found.1.1 found.1.2 found.2, found.2))
       (some_one_or_not tell xs))
       (tell x)
-
--- and whether one cell of a box is so
-pub some_cell_or_not : (box : List Interval) (P : List ℤ → Type 0) → ((c : List ℤ) → Or_not (P c)) → Or_not ((c : List ℤ) × IsIn box c × P c)
-some_cell_or_not box P tell =
-    as_or_not (λ found. (found.0, cells_are_in box found.0 found.1, found.2)) (λ found. (found.0, in_are_cells box found.0 found.1, found.2))
-    (some_one_or_not P tell (cells_of box))
