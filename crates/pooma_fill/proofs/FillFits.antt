@@ -25,11 +25,11 @@ use Rattle.pooma_store.specs.Numbering.{areas_of, layout_at, object_count, objec
 use Rattle.pooma_store.proofs.ObjectNumbers.{area_at, length-areas, object_there}
 use Rattle.pooma_piece.specs.Lent.{FillsIn, HasCell, HaveSources, IsFitting, lent_for}
 use Rattle.pooma_piece.specs.Pieces.{Pieced, requests_of}
+use Rattle.pooma_piece.proofs.Below.{requests_below}
 use Rattle.pooma_piece.proofs.Naming.{lent_is, written_is}
 use Rattle.pooma_fill.specs.Filling.{fill_of_box}
 use Rattle.pooma_fill.proofs.Codes.{literal_views}
 use Rattle.pooma_fill.proofs.Listed.{HasLaws, in_owned}
-use Rattle.pooma_fill.proofs.Asking.{requests_below}
 use Rattle.pooma_fill.proofs.FilledCells.{IsTaken, of_slab, owned_box, owners_same, owns_it, total_cell}
 use Rattle.pooma_fill.proofs.SlabFills.{IsFillOf}
 

@@ -1,4 +1,3 @@
-pub mod Asking
 pub mod Beside
 pub mod Codes
 pub mod Cuts

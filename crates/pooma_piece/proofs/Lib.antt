@@ -5,6 +5,7 @@ pub mod Seen
 pub mod Apart
 pub mod Naming
 pub mod Areas
+pub mod Below
 pub mod Totals
 pub mod Steps
 pub mod Tests

@@ -15,11 +15,14 @@ ghost use Rattle.pooma_piece.specs.Words.{AllWords, MakesWords};
 
 use pooma_domain::order_of_cells;
 
-/// What pieces ask for, as a law for proofs: a list of requests, the one to write for the object that is written. What objects
+/// What pieces ask for, as a law for proofs: a list of requests, the one to write for the object that is written, and all for
+/// objects that are there where those that it names are. What objects
 /// lend for these requests to a piece is, for each object that it names, the object's own content, or area.
 pub fn objects_lend()
     ensures form { (write : Option ℕ) (reads : List ℕ) → IsRequestList (requests_for write reads) }
     ensures written { (write : Option ℕ) (reads : List ℕ) → written_object (requests_for write reads) ≡ write }
+    ensures below { (n : ℕ) (write : Option ℕ) (reads : List ℕ) → ((o : ℕ) → write ≡ Some o → o < n) → All (λ o. o < n) reads
+        → All (λ r. r.object < n) (requests_for write reads) }
     ensures contents { (piece : Pieced) (objects : List Numbered) (o : ℕ) → All (λ r. r.object < length objects) (requests_of piece) → Names piece o
         → lent_for piece (lent_by objects (requests_of piece)).written (lent_by objects (requests_of piece)).reads o ≡ slice_get objects o }
     ensures areas { (piece : Pieced) (areas : List (List Interval)) (o : ℕ) → All (λ r. r.object < length areas) (requests_of piece) → Names piece o
