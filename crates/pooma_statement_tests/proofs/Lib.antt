@@ -1,3 +1,2 @@
 pub mod Arrays
-pub mod Boxes
 pub mod Statements

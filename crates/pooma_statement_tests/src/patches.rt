@@ -6,6 +6,7 @@ ghost use Rattle.pooma_store.specs.Stored.{contents_of};
 use pooma_machine::{Mode, Request};
 use pooma_patch::Patch;
 use pooma_piece::{Outcome, Piece, run_piece};
+use pooma_store::patches_in_place;
 use std::alloc::Global;
 use std::sync::Arc;
 
@@ -64,6 +65,7 @@ fn written(requests: &[Request]) -> Option<usize> {
 fn perform_one(alloc: Global, patches: &mut [Arc<Patch>], piece: &Piece) -> Option<()>
     ensures { map (λ object. object.area) (contents_of patches.new) ≡ map (λ object. object.area) (contents_of patches.old) }
 {
+    patches_in_place();
     let reads = read(alloc, patches, piece.requests())?;
     let object = written(piece.requests())?;
     if object >= patches.len() {

@@ -1,15 +1,19 @@
 //! The laws of objects, for the proofs of the crates above. Each does nothing.
-ghost use Rattle.std.specs.Prelude.{◌≡◌, ◌≢◌, ℕ, ◌<◌, ℤ, pos, Some, List, [], ◌∷◌, ◌++◌, length, slice_get, All};
+ghost use Rattle.std.specs.Prelude.{◌≡◌, ◌≢◌, ℕ, ◌<◌, ℤ, pos, Some, List, [], ◌∷◌, ◌++◌, length, map, slice_get, slice_index_or, slice_set, All};
+ghost use Rattle.std.specs.Arc.{arc_value};
+ghost use Rattle.std.specs.declared.alloc.Global.{Global};
+ghost use Rattle.std.specs.declared.sync.Arc.{Arc};
 ghost use Rattle.pooma_domain.specs.Cells.{Interval, IsIn};
 ghost use Rattle.pooma_field.specs.Numbered.{Numbered, Change, with_changes, IsFull};
 ghost use Rattle.pooma_field.specs.Shapes.{Shaped};
 ghost use Rattle.pooma_field.specs.Worlds.{World, array_of, number_of, changed, opening_world, HasCell};
 ghost use Rattle.pooma_layout.specs.Axes.{CutAxis, IsCutAxis};
 ghost use Rattle.pooma_layout.specs.Patches.{allocated_boxes, owner_of, Owns, IsLayout};
+ghost use Rattle.pooma_patch.specs.Patched.{Patched};
 ghost use Rattle.pooma_store.specs.Gathered.{HasLaws};
 ghost use Rattle.pooma_store.specs.Numbering.{layout_at, object_count, object_of, areas_of, object_at, changed_at, new_patches, new_objects, AreObjects, EachCell, HasPatch};
 ghost use Rattle.pooma_store.specs.Standing.{HasTotal, OwnerHas, StandsFor, shape_at, IsFresh, IsGuarded};
-ghost use Rattle.pooma_store.specs.Stored.{AreArrays};
+ghost use Rattle.pooma_store.specs.Stored.{AreArrays, contents_of};
 
 use pooma_field::{numbers_of_cells, worlds_change};
 use pooma_layout::{allocated_cells_of_patches, owners_of_cells};
@@ -82,6 +86,13 @@ pub fn objects_change()
 {
     gathered();
 }
+
+/// Shared patches, as a law for proofs: a patch over the same box in place of another leaves the boxes as they are.
+pub fn patches_in_place()
+    ensures { (patches : List (Arc Patched Global)) (k : ℕ) (old new : Arc Patched Global)
+        → (arc_value new).content.area ≡ (arc_value (slice_index_or patches k old)).content.area
+        → map (λ object. object.area) (contents_of (slice_set patches k new)) ≡ map (λ object. object.area) (contents_of patches) }
+{}
 
 /// New arrays, as a law for proofs: they read 0 everywhere, so they stand for the opening world, and are guarded. An array
 /// more leaves the numbers of the others.

@@ -5,5 +5,7 @@ mod arrays;
 mod laws;
 mod store;
 
-pub use laws::{new_arrays, numbers_of_objects, numbers_of_owners, objects_change};
+pub use laws::{
+    new_arrays, numbers_of_objects, numbers_of_owners, objects_change, patches_in_place,
+};
 pub use store::Store;

@@ -7,7 +7,7 @@ use pooma_domain::{Axis, BoxN, Cell};
 use pooma_field::Shape;
 use pooma_layout::Layout;
 use pooma_patch::Patch;
-use pooma_store::Store;
+use pooma_store::{Store, patches_in_place};
 use std::alloc::{AllocError, Global};
 use std::sync::Arc;
 
@@ -71,6 +71,7 @@ fn put_at(
 ) -> Result<(), AllocError>
     ensures { map (λ object. object.area) (contents_of patches.new) ≡ map (λ object. object.area) (contents_of patches.old) }
 {
+    patches_in_place();
     if object >= patches.len() {
         return Ok(());
     }

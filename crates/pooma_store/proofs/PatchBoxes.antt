@@ -1,4 +1,4 @@
--- The boxes of shared patches.
+-- The boxes of shared patches, where one is put in the place of another.
 use Rattle.std.proofs.Common.{sym, ◌∙◌}
 use Rattle.std.proofs.lemmas.Simd.{map-map}
 use Rattle.std.proofs.Math.Seq.{map-set_same}
@@ -11,8 +11,8 @@ use Rattle.pooma_patch.specs.Patched.{Patched}
 use Rattle.pooma_store.specs.Stored.{contents_of}
 
 -- a patch over the same box in place of another
-pub boxes_stay : (patches : List (Arc Patched Global)) (k : ℕ) (old new : Arc Patched Global) → (arc_value new).content.area ≡ (arc_value (slice_index_or patches k old)).content.area → map (λ (object : Numbered). object.area) (contents_of (slice_set patches k new)) ≡ map (λ (object : Numbered). object.area) (contents_of patches)
-boxes_stay patches k old new same =
+pub patch_in_place : (patches : List (Arc Patched Global)) (k : ℕ) (old new : Arc Patched Global) → (arc_value new).content.area ≡ (arc_value (slice_index_or patches k old)).content.area → map (λ (object : Numbered). object.area) (contents_of (slice_set patches k new)) ≡ map (λ (object : Numbered). object.area) (contents_of patches)
+patch_in_place patches k old new same =
     as_one (slice_set patches k new)
     ∙ map-set_same (λ (a : Arc Patched Global). (arc_value a).content.area) patches k new old same
     ∙ sym (as_one patches)
