@@ -28,6 +28,7 @@ use Rattle.pooma_model.specs.declared.statement.Action.{Action}
 use Rattle.pooma_store.specs.Numbering.{AreObjects, layout_at}
 use Rattle.pooma_store.specs.Standing.{IsFresh, OwnerHas, StandsFor, shape_at}
 use Rattle.pooma_store.specs.Stored.{AreArrays, Stored}
+use Rattle.pooma_piece.specs.Gathered.{HasMembers}
 use Rattle.pooma_piece.specs.declared.outcome.Outcome.{Outcome}
 use Rattle.pooma_piece.specs.declared.outcome.Outcome.TheVariants.{Done}
 use Rattle.pooma_piece.specs.Lent.{is_in}
@@ -188,7 +189,7 @@ and_true true b e f = f
 and_true false b e f = absurd (false≢true e)
 
 -- a view that names a cell outside is one that reads the array outside
-reads_outside : ((box : List Interval) (c : List ℤ) → Contains (cells_of box) c ↔ IsIn box c) → (shape : Shaped) (does : Action) (view : Viewed) (p : List ℤ) → Contains (views_read does) view → IsIn (positions_of view.slots) p → ¬ (IsIn shape.physical (cell_named view.slots p)) → reads_external shape view.array does ≡ true
+reads_outside : HasMembers → (shape : Shaped) (does : Action) (view : Viewed) (p : List ℤ) → Contains (views_read does) view → IsIn (positions_of view.slots) p → ¬ (IsIn shape.physical (cell_named view.slots p)) → reads_external shape view.array does ≡ true
 reads_outside members shape does view p listed inside outside =
     list_any_at (is_external shape view.array) (views_read does) listed.0 view listed.1
     (ap (is_external shape view.array) listed.2
@@ -219,7 +220,7 @@ read_marked laws store stale does objects world after can all view p shape mark 
     (λ marked c field in_total out.
     all.needed view.array shape mark at_s at_m
     (needed_then does view.array shape mark marked (subst (λ (s : Shaped). IsSome s.faces) is field.faced)
-    (reads_outside laws.members (shape_of shape) does view p listed inside (λ h. outside (subst (λ (s : Shaped). IsIn s.physical (cell_named view.slots p)) (sym is) h))))
+    (reads_outside laws.cells.members (shape_of shape) does view p listed inside (λ h. outside (subst (λ (s : Shaped). IsIn s.physical (cell_named view.slots p)) (sym is) h))))
     c field in_total out)
     (λ plain. all.kept view.array (can.marks view.array mark at_m plain))
     (bool_cases mark.external)

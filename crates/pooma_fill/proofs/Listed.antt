@@ -19,9 +19,11 @@ use Rattle.pooma_field.specs.Slabs.{axis_at, cell_sources, coordinate_at, source
 use Rattle.pooma_field.specs.Updaters.{IsConstant}
 use Rattle.pooma_layout.specs.Axes.{CutAxis, IsCutAxis}
 use Rattle.pooma_layout.specs.Patches.{Owns, owned_boxes, owner_of, total_of}
+use Rattle.pooma_store.specs.Gathered.{OfOwners}
 use Rattle.pooma_store.specs.Numbering.{layout_at}
 use Rattle.pooma_store.specs.Standing.{shape_at}
 use Rattle.pooma_store.specs.Stored.{AreArrays}
+use Rattle.pooma_piece.specs.Gathered.{OfCells}
 use Rattle.pooma_fill.specs.Boxes.{box_of, counting_from, numbers_below}
 use Rattle.pooma_fill.specs.Filling.{cells_filled, is_patch, patches_of, source_from, source_owner}
 use Rattle.pooma_fill.proofs.Spans.{box_is, firsts_in, lasts_in, no_box}
@@ -57,10 +59,8 @@ filter_map-one f xs x = filter_map-append f xs (x ∷ [])
 
 -- what the laws on boxes and on owners say
 pub record HasLaws : Type 0 where
-  pub members : (box : List Interval) (c : List ℤ) → Contains (cells_of box) c ↔ IsIn box c
-  pub ascending : (box : List Interval) → AllPairs IsBefore (cells_of box)
-  pub owned : (layout : List CutAxis) (c : List ℤ) → IsIn (total_of layout) c → Owns layout (owner_of layout c) c
-  pub no_other : (layout : List CutAxis) (p : ℕ) (c : List ℤ) → All IsCutAxis layout → Owns layout p c → p ≡ owner_of layout c
+  pub cells : OfCells
+  pub owners : OfOwners
 
 -- the patch owns the cell, by its box
 pub owns_by : (layout : List CutAxis) (p : ℕ) (box : List Interval) (c : List ℤ) → slice_get (owned_boxes layout) p ≡ Some box → IsIn box c → Owns layout p c
@@ -76,8 +76,8 @@ in_owned layout p box c at h = by (slice_get (owned_boxes layout) p) at h
 -- the owner is the patch, exactly where the patch owns the cell
 pub owner_is : HasLaws → (layout : List CutAxis) (p : ℕ) (c : List ℤ) → All IsCutAxis layout → IsIn (total_of layout) c → (owner_of layout c ≡ p) ↔ Owns layout p c
 owner_is laws layout p c cut total = (
-  λ e. subst (λ (q : ℕ). Owns layout q c) e (laws.owned layout c total),
-  λ h. sym (laws.no_other layout p c cut h),
+  λ e. subst (λ (q : ℕ). Owns layout q c) e (laws.owners.owned layout c total),
+  λ h. sym (laws.owners.only layout p c cut h),
 )
 
 and_both : (a b : Bool) → (a && b) ≡ true → (a ≡ true) × (b ≡ true)
@@ -141,16 +141,16 @@ pub record IsLaid (layout : List CutAxis) (shape : Shaped) (slab : Slab) : Type 
 -- the cells that one patch owns, of a constant
 pub filled_constant : HasLaws → (layout : List CutAxis) (shape : Shaped) (slab : Slab) (p : ℕ) (part : List Interval) → IsLaid layout shape slab → IsConstant slab.updater → All IsOrdered part → ((c : List ℤ) → IsIn part c ↔ (IsIn slab.target c × Owns layout p c)) → box_of (cells_filled layout shape slab p None) ≡ Some part
 filled_constant laws layout shape slab p part laid constant ordered meets =
-    box_is part (cells_filled layout shape slab p None) ordered (AllPairs-filter IsBefore test (cells_of slab.target) (laws.ascending slab.target))
+    box_is part (cells_filled layout shape slab p None) ordered (AllPairs-filter IsBefore test (cells_of slab.target) (laws.cells.ascending slab.target))
     (λ c. (
       λ h.
           let kept = kept_in test (cells_of slab.target) c h in
-          let inside : IsIn slab.target c = (laws.members slab.target c).0 kept.0 in
+          let inside : IsIn slab.target c = (laws.cells.members slab.target c).0 kept.0 in
           let tests = and_both (owner_of layout c == p) (is_patch (source_owner layout shape slab c) None) kept.1 in
           (meets c).1 (inside, (owner_is laws layout p c laid.cut (laid.total c inside)).0 ((Decides-eqb (owner_of layout c) p).0 tests.0)),
       λ h.
           let both = (meets c).0 h in
-          keeps_in test (cells_of slab.target) c ((laws.members slab.target c).1 both.0)
+          keeps_in test (cells_of slab.target) c ((laws.cells.members slab.target c).1 both.0)
           (both_and (owner_of layout c == p) (is_patch (source_owner layout shape slab c) None)
           ((Decides-eqb (owner_of layout c) p).1 ((owner_is laws layout p c laid.cut (laid.total c both.0)).1 both.1))
           (ap (λ (o : Option ℕ). is_patch o None) (no_source layout shape slab c constant))),
@@ -180,15 +180,15 @@ module _ (laws : HasLaws) (layout : List CutAxis) (shape : Shaped) (slab : Slab)
 
   pub filled_from : (cells : List Interval) → All IsOrdered cells → ((c : List ℤ) → IsIn cells c ↔ (IsIn part c × IsIn from (source_from shape slab c))) → box_of (cells_filled layout shape slab p (Some q)) ≡ Some cells
   filled_from cells ordered are =
-      box_is cells (cells_filled layout shape slab p (Some q)) ordered (AllPairs-filter IsBefore test (cells_of slab.target) (laws.ascending slab.target))
+      box_is cells (cells_filled layout shape slab p (Some q)) ordered (AllPairs-filter IsBefore test (cells_of slab.target) (laws.cells.ascending slab.target))
       (λ c. (
         λ h.
             let kept = kept_in test (cells_of slab.target) c h in
-            (are c).1 ((passes c ((laws.members slab.target c).0 kept.0)).0 kept.1),
+            (are c).1 ((passes c ((laws.cells.members slab.target c).0 kept.0)).0 kept.1),
         λ h.
             let both = (are c).0 h in
             let inside : IsIn slab.target c = ((meets c).0 both.0).0 in
-            keeps_in test (cells_of slab.target) c ((laws.members slab.target c).1 inside) ((passes c inside).1 both),
+            keeps_in test (cells_of slab.target) c ((laws.cells.members slab.target c).1 inside) ((passes c inside).1 both),
       ))
 
   pub filled_none : ((c : List ℤ) → IsIn part c → IsIn from (source_from shape slab c) → ⊥) → box_of (cells_filled layout shape slab p (Some q)) ≡ None
@@ -196,7 +196,7 @@ module _ (laws : HasLaws) (layout : List CutAxis) (shape : Shaped) (slab : Slab)
       no_box (cells_filled layout shape slab p (Some q))
       (λ c h.
       let kept = kept_in test (cells_of slab.target) c h in
-      let both = (passes c ((laws.members slab.target c).0 kept.0)).0 kept.1 in
+      let both = (passes c ((laws.cells.members slab.target c).0 kept.0)).0 kept.1 in
       none c both.0 both.1)
 
 -- where the patch owns no cell of the slab, there is no fill
@@ -205,7 +205,7 @@ filled_nowhere laws layout shape slab p source laid apart =
     no_box (cells_filled layout shape slab p source)
     (λ c h.
     let kept = kept_in (λ d. (owner_of layout d == p) && is_patch (source_owner layout shape slab d) source) (cells_of slab.target) c h in
-    let inside : IsIn slab.target c = (laws.members slab.target c).0 kept.0 in
+    let inside : IsIn slab.target c = (laws.cells.members slab.target c).0 kept.0 in
     let tests = and_both (owner_of layout c == p) (is_patch (source_owner layout shape slab c) source) kept.1 in
     apart c inside ((owner_is laws layout p c laid.cut (laid.total c inside)).0 ((Decides-eqb (owner_of layout c) p).0 tests.0)))
 

@@ -36,7 +36,7 @@ use Rattle.pooma_fill.proofs.SlabFills.{here, later, of_map, of_mapped}
 use Rattle.pooma_fill.proofs.FillFits.{IsFill, IsOver, asks_known, reads_are, taken}
 
 pub of_cells : HasLaws → listed.HasLaws
-of_cells laws = record { members = laws.members; ascending = laws.ascending; owned = laws.owned; no_other = laws.no_other }
+of_cells laws = record { cells = laws.cells; owners = laws.owners }
 
 not_before_itself : (c : List ℤ) → IsBefore c c → ⊥
 not_before_itself [] h = h
@@ -102,7 +102,7 @@ module _ (laws : HasLaws) (layouts : List (List CutAxis)) (array : ℕ) (shape :
     each_change P h k change at =
         let from = of_mapped change_of (slice_get (cells_of fill.box) k) change (sym (slice_get-map change_of (cells_of fill.box) k) ∙ at) in
         subst (λ (x : Change). P x.cell) from.2
-        (h from.0 ((laws.members fill.box from.0).0 (k, slice_get_within (cells_of fill.box) k from.0 from.1, get_or_from_slice_get (cells_of fill.box) k from.0 from.0 from.1)))
+        (h from.0 ((laws.cells.members fill.box from.0).0 (k, slice_get_within (cells_of fill.box) k from.0 from.1, get_or_from_slice_get (cells_of fill.box) k from.0 from.0 from.1)))
 
     pub still : AreObjects layouts (changed_at objects object changes)
     still = laws.objects layouts objects object changes are known
@@ -157,11 +157,11 @@ module _ (laws : HasLaws) (layouts : List (List CutAxis)) (array : ℕ) (shape :
           let two : slice_index_or (cells_of fill.box) j c ≡ c = get_or_from_slice_get (cells_of fill.box) j from.0 c from.1 ∙ same in
           not_before_itself c
           (subst (λ (d : List ℤ). IsBefore d c) one
-          (subst (IsBefore (slice_index_or (cells_of fill.box) k c)) two (laws.ascending fill.box k j c before (slice_get_within (cells_of fill.box) j from.0 from.1))))
+          (subst (IsBefore (slice_index_or (cells_of fill.box) k c)) two (laws.cells.ascending fill.box k j c before (slice_get_within (cells_of fill.box) j from.0 from.1))))
 
       pub set : (c : List ℤ) → IsIn fill.box c → Has (changed_at objects object changes) c
       set c h =
-          let listed = (laws.members fill.box c).1 h in
+          let listed = (laws.cells.members fill.box c).1 h in
           let at : slice_get (cells_of fill.box) listed.0 ≡ Some c = slice_get-get_or (cells_of fill.box) listed.0 c listed.1 ∙ ap Some listed.2 in
           subst (λ (n : ℤ). OwnerHas layouts (changed_at objects object changes) array c n) (number_is c h)
           (laws.set layouts objects array fill.target changes listed.0 (change_of c) are patch

@@ -15,6 +15,7 @@ use Rattle.pooma_expr.specs.declared.tree.Expr.TheOpen.{Expr-F}
 use Rattle.pooma_expr.specs.declared.tree.Expr.TheFolds.{fold-roll-Expr}
 use Rattle.pooma_expr.specs.declared.tree.Expr.TheVariants.{Literal, Scalar, Index, Read, Neg, Abs, Bin, Where, rolls-Literal, rolls-Scalar, rolls-Index, rolls-Read, rolls-Neg, rolls-Abs, rolls-Bin, rolls-Where}
 use Rattle.pooma_expr.specs.Trees.{views_by, views_of}
+use Rattle.pooma_piece.specs.Gathered.{HasMembers}
 use Rattle.pooma_piece.specs.Lent.{is_in}
 
 not_above : (a b : ℤ) → int_le a b ≡ true → a ≤ℤ b
@@ -49,7 +50,7 @@ in_then (axis ∷ axes) (x ∷ xs) h =
     (both_true (int_le x axis.last) (is_in axes xs) (is_not_above x axis.last h.1) (in_then axes xs h.2))
 
 -- whether some position's cell lies outside, by whether all lie inside
-pub outside_is : ((box : List Interval) (c : List ℤ) → Contains (cells_of box) c ↔ IsIn box c) → (box positions : List Interval) (cell : List ℤ → List ℤ) (w : Bool) → (w ≡ true) ↔ ((p : List ℤ) → IsIn positions p → IsIn box (cell p)) → not w ≡ list_any (λ p. not (is_in box (cell p))) (cells_of positions)
+pub outside_is : HasMembers → (box positions : List Interval) (cell : List ℤ → List ℤ) (w : Bool) → (w ≡ true) ↔ ((p : List ℤ) → IsIn positions p → IsIn box (cell p)) → not w ≡ list_any (λ p. not (is_in box (cell p))) (cells_of positions)
 outside_is members box positions cell true h =
     sym (list_any_none (λ p. not (is_in box (cell p))) (cells_of positions)
     (λ k d there. ap not (in_then box (cell (get_or (cells_of positions) k d)) (h.0 refl (get_or (cells_of positions) k d) ((members positions (get_or (cells_of positions) k d)).0 (Contains-get_or (cells_of positions) k d there))))))

@@ -140,7 +140,7 @@ module _ (laws : HasLaws) (meeting : (a b : List Interval) → length a ≡ leng
       let kept = kept_by (λ c. (owner_of layout c == target) && is_patch (source_owner layout (shape_of shape) slab c) source) (cells_of slab.target) left.0 some.0 left.1 in
       let tests = and_both (owner_of layout some.0 == target) (is_patch (source_owner layout (shape_of shape) slab some.0) source) kept.2 in
       let taken : IsTaken layout cut (shape_of shape) valid same slab there target source some.0 = record {
-        inside = (laws.members slab.target some.0).0 (contained (cells_of slab.target) kept.0 some.0 kept.1);
+        inside = (laws.cells.members slab.target some.0).0 (contained (cells_of slab.target) kept.0 some.0 kept.1);
         owner = (Decides-eqb (owner_of layout some.0) target).0 tests.0;
         from = tests.1;
       } in

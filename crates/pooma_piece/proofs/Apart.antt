@@ -14,16 +14,16 @@ use Rattle.pooma_expr.specs.Values.{Checked}
 use Rattle.pooma_piece.specs.declared.task.Task.{Task}
 use Rattle.pooma_piece.specs.declared.task.Task.TheVariants.{Assign}
 use Rattle.pooma_piece.specs.Effects.{change_to, changes_over}
+use Rattle.pooma_piece.specs.Gathered.{OfCells}
 use Rattle.pooma_piece.specs.Lent.{is_written, lent_for, number_in, seen_by}
 use Rattle.pooma_piece.specs.Pieces.{AreApart, AreOfTarget, AreOwn, IsPiece, Pieced}
 use Rattle.pooma_piece.specs.Sources.{SeesAs}
 use Rattle.pooma_piece.proofs.Seen.{read_in_is}
 
--- what a change of some cells leaves, and that a cell stands in a box's order once
+-- what a change of some cells leaves, and that a box has its cells once each
 pub record HasLaws : Type 0 where
   pub kept : (a : Numbered) (changes : List Change) (d : List ℤ) → IsFull a → ((k : ℕ) (change : Change) → slice_get changes k ≡ Some change → d ≢ change.cell) → number_at (with_changes a changes) d ≡ number_at a d
-  pub members : (box : List Interval) (c : List ℤ) → Contains (cells_of box) c ↔ IsIn box c
-  pub once : (box : List Interval) (c : List ℤ) (j k : ℕ) → slice_get (cells_of box) j ≡ Some c → slice_get (cells_of box) k ≡ Some c → j ≡ k
+  pub cells : OfCells
 
 pub from_take : (k : ℕ) (xs : List (List ℤ)) (j : ℕ) (x : List ℤ) → slice_get (take k xs) j ≡ Some x → (j < k) × (slice_get xs j ≡ Some x)
 from_take zero [] j x e = absurd (cc)
@@ -60,7 +60,7 @@ written_is None object e = absurd (cc)
 written_is (Some o) object e = ap Some ((Decides-eqb o object).0 e)
 
 pub in_box : HasLaws → (box : List Interval) (j : ℕ) (q : List ℤ) → slice_get (cells_of box) j ≡ Some q → IsIn box q
-in_box laws box j q at = (laws.members box q).0 (j, slice_get_within (cells_of box) j q at, get_or_from_slice_get (cells_of box) j q q at)
+in_box laws box j q at = (laws.cells.members box q).0 (j, slice_get_within (cells_of box) j q at, get_or_from_slice_get (cells_of box) j q q at)
 
 -- no cell that is read at the k-th position is one that was set at an earlier one
 pub set_elsewhere : HasLaws → (piece : Pieced) (target : Viewed) → IsPiece piece → piece.task ≡ Assign target → (k : ℕ) (p : List ℤ) → slice_get (cells_of piece.positions) k ≡ Some p → (value : List ℤ → Checked) (i : ℕ) (view : Viewed) → slice_get (views_of piece.code) i ≡ Some view → slice_get piece.reads i ≡ piece.write → (m : ℕ) (change : Change) → slice_get (changes_over target.slots value (take k (cells_of piece.positions))) m ≡ Some change → cell_named view.slots p ≢ change.cell
@@ -75,7 +75,7 @@ set_elsewhere laws piece target valid task k p at value i view vi oi m change e 
     let this : get_or (views_of piece.code) i view ≡ view = get_or_from_slice_get (views_of piece.code) i view view vi in
     let within : i < length (views_of piece.code) = slice_get_within (views_of piece.code) i view vi in
     let positions : IsIn (positions_of view.slots) p = subst (λ (v : Viewed). IsIn (positions_of v.slots) p) this (valid.within i view within p (in_box laws piece.positions k p at)) in
-    let other : p ≢ q = λ (equal : p ≡ q). before_itself (laws.once piece.positions q made.place k taken.1 (at ∙ ap Some equal)) taken.0 in
+    let other : p ≢ q = λ (equal : p ≡ q). before_itself (laws.cells.once piece.positions q made.place k taken.1 (at ∙ ap Some equal)) taken.0 in
     let overlap : IsOverlap view target =
     (of_target i view vi oi, (p, q, positions, own q (in_box laws piece.positions made.place q taken.1), other, same ∙ change_cell (cell_named target.slots q) (value q) change made.made)) in
     subst (λ (v : Viewed). IsOverlap v target → ⊥) this (apart i view within) overlap

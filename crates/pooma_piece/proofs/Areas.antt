@@ -15,6 +15,7 @@ use Rattle.pooma_field.specs.Slabs.{cell_sources}
 use Rattle.pooma_expr.specs.Trees.{views_of}
 use Rattle.pooma_piece.specs.declared.task.Task.{Task}
 use Rattle.pooma_piece.specs.declared.task.Task.TheVariants.{Assign, Reduce, Fill}
+use Rattle.pooma_piece.specs.Gathered.{HasMembers}
 use Rattle.pooma_piece.specs.Lent.{FillsIn, HasCell, HasCells, IsFitting, SetsIn, fits, has_all, has_cells, has_one, have_sources, is_in, lent_for, read_in, task_fits}
 use Rattle.pooma_piece.specs.Pieces.{Pieced}
 use Rattle.pooma_piece.proofs.Seen.{and_parts, is_in_is}
@@ -33,9 +34,6 @@ passes_in (axis ∷ axes) [] h = absurd h
 passes_in (axis ∷ axes) (x ∷ xs) h =
     both_true (int_le axis.first x) (int_le x axis.last && is_in axes xs) (is_not_above axis.first x h.0)
     (both_true (int_le x axis.last) (is_in axes xs) (is_not_above x axis.last h.1) (passes_in axes xs h.2))
-
-abbrev HasMembers : Type 0
-HasMembers = (box : List Interval) (c : List ℤ) → Contains (cells_of box) c ↔ IsIn box c
 
 cells_then : HasMembers → (o : Option (List Interval)) (view : Viewed) (positions : List Interval) → has_cells o view.slots (cells_of positions) ≡ true → HasCells o view positions
 cells_then members None view positions e = absurd (cc)

@@ -26,6 +26,7 @@ use Rattle.pooma_piece.specs.declared.task.Task.{Task}
 use Rattle.pooma_piece.specs.declared.task.Task.TheVariants.{Assign, Reduce, Fill}
 use Rattle.pooma_piece.specs.Effects.{before_fault, change_to, changes_over, content_by, value_at}
 use Rattle.pooma_piece.specs.Fills.{fill_change, filled_at, numbers_lent}
+use Rattle.pooma_piece.specs.Gathered.{HasMembers}
 use Rattle.pooma_piece.specs.Lent.{is_written, lent_for, number_in, read_in, seen_by}
 use Rattle.pooma_piece.specs.Meaning.{pieces}
 use Rattle.pooma_piece.specs.Pieces.{Pieced, requests_of}
@@ -107,7 +108,7 @@ changes_fit slots value (p ∷ ps) each =
     by (Ok n) good rest = All-cons (λ (x : Change). IsWord x.number) (record { cell = cell_named slots p; number = n }) (changes_over slots value ps) good rest
     by (Err kind) good rest = rest
 
-module _ (members : (box : List Interval) (c : List ℤ) → Contains (cells_of box) c ↔ IsIn box c) where
+module _ (members : HasMembers) where
   module _ (piece : Pieced) (old : Numbered) (reads : List Numbered) (words : All IsWord old.numbers) (of_reads : AllWords reads) where
     of_old : HasWords (Some old)
     of_old x is = let same : old ≡ x = cc in subst (λ (o : Numbered). All IsWord o.numbers) same words

@@ -8,3 +8,4 @@ pub mod Effects
 pub mod Meaning
 pub mod Plans
 pub mod Words
+pub mod Gathered

@@ -4,6 +4,7 @@ use Rattle.std.specs.Prelude.{◌↔◌, Contains, flat_map}
 use Rattle.pooma_domain.specs.Cells.{Interval, cells_of, coordinates, IsIn}
 use Rattle.pooma_model.proofs.Lists.{Member, contains_of, member_left, member_right}
 use Rattle.pooma_model.specs.Texts.{row_text, view_text}
+use Rattle.pooma_piece.specs.Gathered.{HasMembers}
 use Rattle.pooma_store.specs.Stored.{Stored}
 use Rattle.pooma_view.specs.Slots.{positions_of}
 use Rattle.pooma_view.specs.Views.{Viewed}
@@ -29,7 +30,7 @@ member_flat f (z ∷ zs) x y m k =
     (λ later. member_right (f z) (flat_map f zs) y (member_flat f zs x y later k))
     m
 
-pub texts_alike : ((box : List Interval) (p : List ℤ) → Contains (cells_of box) p ↔ IsIn box p) → (f g : List ℤ → ℤ) (box : List Interval)
+pub texts_alike : HasMembers → (f g : List ℤ → ℤ) (box : List Interval)
     → ((p : List ℤ) → IsIn box p → f p ≡ g p) → view_text f box ≡ view_text g box
 texts_alike members f g [] same = ap (λ n. row_text (n ∷ [])) (same [] tt)
 texts_alike members f g (axis ∷ axes) same =

@@ -1,12 +1,12 @@
 -- What the laws of the crates below say of works, of statements and of their worlds, in one place. No contract of a public call
 -- cites it.
-use Rattle.std.specs.Prelude.{◌≡◌, ◌≢◌, ◌↔◌, ◌++◌, ℕ, ℤ, false, None, Option, List, map, length, IsTrue, All, Contains}
+use Rattle.std.specs.Prelude.{◌≡◌, ◌≢◌, ◌++◌, ℕ, ℤ, false, None, Option, List, map, length, IsTrue, All, Contains}
 use Rattle.std.specs.List.Sorted.{IsPermutation}
-use Rattle.pooma_domain.specs.Cells.{Interval, IsIn, cells_of}
+use Rattle.pooma_domain.specs.Cells.{Interval, cells_of}
 use Rattle.pooma_view.specs.Views.{Viewed}
 use Rattle.pooma_field.specs.Numbered.{IsFull, Numbered}
-use Rattle.pooma_field.specs.Shapes.{Shaped, own_area}
-use Rattle.pooma_field.specs.Worlds.{World, array_of, number_of, opening_world}
+use Rattle.pooma_field.specs.Shapes.{Shaped}
+use Rattle.pooma_field.specs.Worlds.{World, array_of, opening_world}
 use Rattle.pooma_layout.specs.Axes.{CutAxis}
 use Rattle.pooma_expr.specs.declared.reduction.Reduction.{Reduction}
 use Rattle.pooma_expr.specs.declared.tree.Expr.{Expr}
@@ -19,7 +19,7 @@ use Rattle.pooma_machine.specs.Machine.{FitsShapes}
 use Rattle.pooma_model.specs.declared.statement.Action.{Action}
 use Rattle.pooma_model.specs.declared.statement.Action.TheVariants as action
 use Rattle.pooma_model.specs.Assigning.{Becomes, assigned, whole_value}
-use Rattle.pooma_model.specs.Declarations.{Declared, seen_in, shape_at, value_in}
+use Rattle.pooma_model.specs.Declarations.{Declared, value_in}
 use Rattle.pooma_model.specs.Fit.{IsFit, IsWritable}
 use Rattle.pooma_model.specs.Partitions.{numbers_in_turn}
 use Rattle.pooma_model.specs.Parts.{parts_of}
@@ -28,6 +28,7 @@ use Rattle.pooma_model.specs.Runs.{IsWorldOf}
 use Rattle.pooma_model.specs.Serial.{effect_of}
 use Rattle.pooma_piece.specs.declared.outcome.Outcome.{Outcome}
 use Rattle.pooma_piece.specs.declared.outcome.Outcome.TheVariants.{Done}
+use Rattle.pooma_piece.specs.Gathered.{HasMembers}
 use Rattle.pooma_piece.specs.Meaning.{pieces}
 use Rattle.pooma_piece.specs.Pieces.{Pieced}
 use Rattle.pooma_piece.specs.Plans.{Faulted}
@@ -35,6 +36,7 @@ use Rattle.pooma_piece.specs.Words.{AllWords, HaveWords}
 use Rattle.pooma_store.specs.Numbering.{AreObjects, areas_of, new_objects, object_count}
 use Rattle.pooma_store.specs.Standing.{IsFresh, IsFreshFor, StandsFor}
 use Rattle.pooma_store.specs.Stored.{AreArrays, Stored}
+use Rattle.pooma_split.specs.Gathered.{SeesOwn}
 use Rattle.pooma_split.specs.Splits.{pieces_of}
 use Rattle.pooma_split.specs.Statements.{ComesTo, GathersTo, Stands, done_in_order, fault_among}
 use Rattle.pooma_split.specs.Words.{literals_fit_in}
@@ -131,14 +133,13 @@ pub record OfFills : Type 0 where
 
 -- worlds, the cells of boxes, and the objects of new arrays
 pub record OfWorlds : Type 0 where
-  pub cells : (box : List Interval) (p : List ℤ) → Contains (cells_of box) p ↔ IsIn box p
+  pub cells : HasMembers
   pub opening : (declared : Declared) → IsWorldOf declared (opening_world declared.shapes declared.scalars)
   pub next : (declared : Declared) (does : Action) (world new : World) → IsWorldOf declared world → effect_of declared does world ≡ Becomes new → IsWorldOf declared new
   pub scalars : (declared : Declared) (target : Viewed) (value : Expr) (mask : Option Expr) (world new : World) → assigned declared target value mask world ≡ Becomes new
       → new.scalars ≡ world.scalars
   pub full : (declared : Declared) (world : World) (view : Viewed) → IsWorldOf declared world → IsWritable declared view → IsFull (array_of world view.array)
-  pub own : (declared : Declared) (world : World) (view : Viewed) (c : List ℤ) → IsIn (own_area (shape_at declared view.array)) c
-      → seen_in declared world view c ≡ number_of world view.array c
+  pub own : SeesOwn
   pub objects : (layouts : List (List CutAxis)) → AreObjects layouts (new_objects layouts)
   pub stands : (shapes : List Shaped) (layouts : List (List CutAxis)) (scalars : ℕ) → AreArrays shapes layouts → StandsFor layouts (new_objects layouts) (opening_world shapes scalars)
 

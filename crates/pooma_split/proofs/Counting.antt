@@ -14,7 +14,7 @@ use Rattle.pooma_model.proofs.Partitioning.{OfCells, cells_once, parts_once, sam
 use Rattle.pooma_split.specs.Gathered.{HasLaws}
 
 cells : HasLaws → OfCells
-cells laws = record { members = laws.members; once = laws.once; ascending = laws.ascending }
+cells laws = record { members = laws.cells.members; once = laws.cells.once; ascending = laws.cells.ascending }
 
 -- parts have as many positions as the whole
 positions_counted : HasLaws → (whole : List Interval) (boxes : List (List Interval)) → IsPartition whole boxes → length (flat_map cells_of boxes) ≡ length (cells_of whole)

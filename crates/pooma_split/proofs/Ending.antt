@@ -71,7 +71,7 @@ statements_are declared number t e (box ∷ rest) = ap (λ l. number ∷ l) (sta
 -- positions of boxes that are parts have as many numbers as there are axes
 pub all_long : HasLaws → (positions : List Interval) (boxes : List (List Interval)) → IsPartition positions boxes → (box : List Interval) (p : List ℤ) → Member boxes box → Member (cells_of box) p → length p ≡ length positions
 all_long laws positions boxes parts box p m k =
-    length_of_cell positions p ((parts.cells p).1 (of_any (λ b. IsIn b p) boxes box m ((laws.members box p).0 (contains_of (cells_of box) p k))))
+    length_of_cell positions p ((parts.cells p).1 (of_any (λ b. IsIn b p) boxes box m ((laws.cells.members box p).0 (contains_of (cells_of box) p k))))
 
 module _ (laws : HasLaws) (declared : Declared) (number : ℕ) (target : Viewed) (value : Expr) (mask : Option Expr) (world : World) (fit : IsAssignFit declared target (whole_value target value mask))
     (objects : List Numbered) (standing : Stands declared objects world (views_of (whole_value target value mask))) (full : IsFull (array_of world target.array)) where

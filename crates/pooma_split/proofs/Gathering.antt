@@ -131,7 +131,7 @@ module _ (laws : HasLaws) (declared : Declared) (number : ℕ) (scalar : ℕ) (r
 
     agree : AgreeOn (value_at work given_to.written given_to.reads) values (cells_of box)
     agree p m =
-        let inside : IsIn box p = (laws.members box p).0 (contains_of (cells_of box) p m) in
+        let inside : IsIn box p = (laws.cells.members box p).0 (contains_of (cells_of box) p m) in
         value_bound world.scalars whole seen p ∙ laws.by_reads world.scalars seen (seen_in declared world) whole p (sees_world p inside)
 
     outcome_is : outcome_of pieces work given_to ≡ first_fault_or values (cells_of box) (kept_for box)
@@ -220,7 +220,7 @@ module _ (laws : HasLaws) (declared : Declared) (number : ℕ) (scalar : ℕ) (r
       box_words : AllFit (numbers_at values (cells_of box))
       box_words = numbers_word values (cells_of box)
           (λ p m.
-          let inside : IsIn box p = (laws.members box p).0 (contains_of (cells_of box) p m) in
+          let inside : IsIn box p = (laws.cells.members box p).0 (contains_of (cells_of box) p m) in
           subst AnswersWord (laws.by_reads world.scalars had (seen_in declared world) whole p (had_world p inside))
           (value_word world.scalars had p (index_word world.scalars few) (place_word positions p fit.few_positions.box.whole ((within box here).inside p inside)) had_word whole literals))
 

@@ -78,7 +78,7 @@ module _ (laws : HasLaws) (declared : Declared) (arrays : AreArrays declared.sha
   parts = laws.partition declared (target ∷ views_of code) positions
 
   is_cell : (box : List Interval) (p : List ℤ) → Member (cells_of box) p → IsIn box p
-  is_cell box p m = (laws.members box p).0 (contains_of (cells_of box) p m)
+  is_cell box p m = (laws.cells.members box p).0 (contains_of (cells_of box) p m)
 
   -- how far the pieces have come: those of the first k boxes are done
   pub record Goes (k : ℕ) (now : World) (done : List (List ℤ)) (objects : List Numbered) : Type 0 where

@@ -47,14 +47,14 @@ object_area layouts objects array p box are known at =
 pub owner_there : HasLaws → (layout : List CutAxis) (c : List ℤ) → IsIn (total_of layout) c → owner_of layout c < patch_count layout
 owner_there laws layout c inside =
     let box : (b : List Interval) × (slice_get (owned_boxes layout) (owner_of layout c) ≡ Some b) × IsIn b c =
-    some_from (λ b. IsIn b c) (slice_get (owned_boxes layout) (owner_of layout c)) (laws.owned layout c inside) in
+    some_from (λ b. IsIn b c) (slice_get (owned_boxes layout) (owner_of layout c)) (laws.owners.owned layout c inside) in
     slice_get_within (owned_boxes layout) (owner_of layout c) box.0 box.1
 
 pub owner_has_cell : HasLaws → (layouts : List (List CutAxis)) (objects : List Numbered) (array : ℕ) (c : List ℤ) → AreObjects layouts objects → All IsCutAxis (layout_at layouts array) → HasTotal layouts array c → OwnerHas layouts objects array c (number_at (object_at objects (owner_object layouts array c)) c)
 owner_has_cell laws layouts objects array c are cut total =
     let layout : List CutAxis = layout_at layouts array in
     let box : (b : List Interval) × (slice_get (owned_boxes layout) (owner_of layout c) ≡ Some b) × IsIn b c =
-    some_from (λ b. IsIn b c) (slice_get (owned_boxes layout) (owner_of layout c)) (laws.owned layout c total.inside) in
+    some_from (λ b. IsIn b c) (slice_get (owned_boxes layout) (owner_of layout c)) (laws.owners.owned layout c total.inside) in
     let allocated : slice_get (allocated_boxes layout) (owner_of layout c) ≡ Some (allocated_of layout box.0) =
     slice_get-map (allocated_of layout) (owned_boxes layout) (owner_of layout c) ∙ ap (option_map (allocated_of layout)) box.1 in
     let there : (owner_object layouts array c < length objects) × ((object_at objects (owner_object layouts array c)).area ≡ allocated_of layout box.0) =

@@ -103,7 +103,7 @@ stands_changed laws layouts objects world array p changes patch full owned stand
       own = λ c has owns. own c has owns (stands array c has);
       foreign = λ c has foreign. ap (λ (b : Numbered). number_at b c) (laws.this world array changes has.0)
           ∙ laws.all_kept (array_of world array) changes c full (λ k change at same. foreign
-          (laws.only (layout_at layouts array) p c patch.cut (subst (Owns (layout_at layouts array) p) (sym same) (owned k change at))));
+          (laws.owners.only (layout_at layouts array) p c patch.cut (subst (Owns (layout_at layouts array) p) (sym same) (owned k change at))));
     })
   where
     object : Numbered
@@ -133,7 +133,7 @@ kept_number laws layouts objects array p changes other c n patch unchanged has =
         let number : HasNumber objects (object_of layouts array p) c n =
         subst (λ (q : ℕ). HasNumber objects (object_of layouts array q) c n) (sym owns) here.number in
         let own : Owns (layout_at layouts array) p c =
-        subst (λ (q : ℕ). Owns (layout_at layouts array) q c) (sym owns) (laws.owned (layout_at layouts array) c here.cell.inside) in
+        subst (λ (q : ℕ). Owns (layout_at layouts array) q c) (sym owns) (laws.owners.owned (layout_at layouts array) c here.cell.inside) in
         laws.all_kept object changes c (full_at objects (object_of layouts array p) patch.are.full number.known)
         (λ k change at same. apart k change at (subst (Owns (layout_at layouts array) p) same own) same)
         ∙ number.number

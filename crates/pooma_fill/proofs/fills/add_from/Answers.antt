@@ -15,7 +15,11 @@ use Rattle.pooma_fill.proofs.fills.add_from.Goals.{After-objects-count, After-ow
 
 -- what the laws on boxes and on owners say
 laws : (c : After-owners_of_cells) → HasLaws
-laws c = record { members = c.order_of_cells.ensures.members; ascending = c.order_of_cells.ensures.ascending; owned = c.owners_of_cells.ensures.owned; no_other = c.owners_of_cells.ensures.no_other }
+laws c =
+    record {
+      cells = record { members = c.order_of_cells.ensures.members; once = c.order_of_cells.ensures.once; ascending = c.order_of_cells.ensures.ascending };
+      owners = record { total = c.owners_of_cells.ensures.total; owned = c.owners_of_cells.ensures.owned; only = c.owners_of_cells.ensures.no_other };
+    }
 
 -- the cells of the slab, and those from which they are taken, are cells of the layout
 laid : (c : After-objects-count) → IsLaid (layout_at c.args.store.now.layouts c.args.array) (shape_of c.args.shape.now) c.args.slab.now

@@ -11,7 +11,7 @@ use Rattle.pooma_piece.proofs.fill.fill.Goals.{After-cell_at-c, At-loop-k}
 -- how far the patch has come
 filled_so_far : (c : At-loop-k) → IsFilledUpTo c.args.piece.now c.args.shape.now c.args.slab.now c.args.array c.args.patch.now.content c.loop-k.patch.content (contents content_of c.args.reads.now) c.loop-k.k
 filled_so_far c =
-    let laws : HasLaws = record { kept = c.numbers_of_cells.ensures.all_kept; members = c.order_of_cells.ensures.members; once = c.order_of_cells.ensures.once } in
+    let laws : HasLaws = record { kept = c.numbers_of_cells.ensures.all_kept; cells = record { members = c.order_of_cells.ensures.members; once = c.order_of_cells.ensures.once; ascending = c.order_of_cells.ensures.ascending } } in
     let slabs : HasSlabs = record { sources = c.slabs_in_order.ensures.sources; earlier = c.slabs_in_order.ensures.earlier } in
     filled_up_to laws slabs c.numbers_of_cells.ensures.area c.args.piece.now c.args.shape.now c.args.slab.now c.args.array c.args.patch.now.content c.loop-k.patch.content (contents content_of c.args.reads.now) c.loop-k.k c.code-code.ensures.valid c.requires.task c.requires.fits c.area-area.ensures.full
     c.loop-k.invariant.content

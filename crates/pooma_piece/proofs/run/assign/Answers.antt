@@ -11,7 +11,7 @@ use Rattle.pooma_piece.proofs.run.assign.Goals.{After-cell_at-p, At-loop-k}
 -- how far the patch and the values have come
 set_so_far : (c : At-loop-k) → IsSetUpTo c.args.piece.now c.args.target.now c.args.patch.now.content c.loop-k.patch.content (contents content_of c.args.reads.now) c.loop-k.k
 set_so_far c =
-    let laws : HasLaws = record { kept = c.numbers_of_cells.ensures.all_kept; members = c.order_of_cells.ensures.members; once = c.order_of_cells.ensures.once } in
+    let laws : HasLaws = record { kept = c.numbers_of_cells.ensures.all_kept; cells = record { members = c.order_of_cells.ensures.members; once = c.order_of_cells.ensures.once; ascending = c.order_of_cells.ensures.ascending } } in
     state laws c.numbers_of_cells.ensures.area c.args.piece.now c.args.target.now c.args.patch.now.content c.loop-k.patch.content (contents content_of c.args.reads.now) c.loop-k.k c.code-code.ensures.valid c.requires.task c.requires.fits c.area-area.ensures.full
     c.loop-k.invariant.content c.loop-k.invariant.numbers
 

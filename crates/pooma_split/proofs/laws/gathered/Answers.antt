@@ -2,9 +2,11 @@ use Rattle.pooma_split.proofs.laws.gathered.Goals as goal
 
 pub returns : goal.returns
 returns c = record {
-  members = c.order_of_cells.ensures.members;
-  once = c.order_of_cells.ensures.once;
-  ascending = c.order_of_cells.ensures.ascending;
+  cells = record {
+    members = c.order_of_cells.ensures.members;
+    once = c.order_of_cells.ensures.once;
+    ascending = c.order_of_cells.ensures.ascending;
+  };
   partition = c.parts_of_statements.ensures.partition;
   allocates = c.allocated_cells_of_patches.ensures.own;
   any_order = c.parts_in_any_order.ensures;

@@ -2,9 +2,11 @@ use Rattle.pooma_store.proofs.laws.gathered.Goals as goal
 
 pub returns : goal.returns
 returns c = record {
-  total = c.owners_of_cells.ensures.total;
-  owned = c.owners_of_cells.ensures.owned;
-  only = c.owners_of_cells.ensures.no_other;
+  owners = record {
+    total = c.owners_of_cells.ensures.total;
+    owned = c.owners_of_cells.ensures.owned;
+    only = c.owners_of_cells.ensures.no_other;
+  };
   own = c.allocated_cells_of_patches.ensures.own;
   set = c.numbers_of_cells.ensures.set;
   kept = c.numbers_of_cells.ensures.kept;

@@ -18,8 +18,8 @@ returns c = record {
   others = λ objects j k changes apart. get_or-set_other objects k j (with_changes (object_at objects k) changes) (record { area = []; numbers = [] }) apart;
   set = λ layouts objects array p changes k change are patch owns at last.
       set_number c.gathered.ensures layouts objects array p changes k change (patch_from are patch)
-      (record { known = patch.known; inside = c.gathered.ensures.total _ p change.cell patch.cut.axes owns })
-      (c.gathered.ensures.only _ p change.cell patch.cut.axes owns) at last;
+      (record { known = patch.known; inside = c.gathered.ensures.owners.total _ p change.cell patch.cut.axes owns })
+      (c.gathered.ensures.owners.only _ p change.cell patch.cut.axes owns) at last;
   kept = λ layouts objects array p changes other cell n are patch apart has.
       kept_number c.gathered.ensures layouts objects array p changes other cell n (patch_from are patch) apart has;
 }
