@@ -17,6 +17,7 @@ use Rattle.pooma_field.specs.declared.updaters.Updater.TheVariants.{Constant, Pe
 use Rattle.pooma_field.specs.Shapes.{Shaped}
 use Rattle.pooma_field.specs.Slabs.{axis_at, cell_sources, coordinate_at, sources_along}
 use Rattle.pooma_field.specs.Updaters.{IsConstant}
+use Rattle.pooma_field.proofs.SlabBoxes.{firsts_in, lasts_in}
 use Rattle.pooma_layout.specs.Axes.{CutAxis, IsCutAxis}
 use Rattle.pooma_layout.specs.Patches.{Owns, owned_boxes, owner_of, total_of}
 use Rattle.pooma_store.specs.Gathered.{OfOwners}
@@ -26,7 +27,7 @@ use Rattle.pooma_store.specs.Stored.{AreArrays}
 use Rattle.pooma_piece.specs.Gathered.{OfCells}
 use Rattle.pooma_fill.specs.Boxes.{box_of, counting_from, numbers_below}
 use Rattle.pooma_fill.specs.Filling.{cells_filled, is_patch, patches_of, source_from, source_owner}
-use Rattle.pooma_fill.proofs.Spans.{box_is, firsts_in, lasts_in, no_box}
+use Rattle.pooma_fill.proofs.Spans.{box_is, no_box}
 use Rattle.pooma_fill.proofs.Taken.{length_cell}
 
 -- ---- one more

@@ -13,6 +13,7 @@ use Rattle.pooma_field.specs.declared.shapes.Slab.{Slab}
 use Rattle.pooma_field.specs.Shapes.{IsShape}
 use Rattle.pooma_field.specs.ShapeOf.{shape_of}
 use Rattle.pooma_field.specs.Slabs.{slabs_of}
+use Rattle.pooma_field.proofs.SlabBoxes.{firsts_in}
 use Rattle.pooma_field.proofs.SlabList.{at_place, contained, kept_by}
 use Rattle.pooma_layout.specs.Axes.{CutAxis, IsCutAxis}
 use Rattle.pooma_layout.specs.Patches.{owner_of, total_of}
@@ -22,7 +23,6 @@ use Rattle.pooma_store.specs.Numbering.{layout_at, patch_count}
 use Rattle.pooma_fill.specs.Boxes.{box_of, counting_from, numbers_below}
 use Rattle.pooma_fill.specs.Filling.{cells_filled, fill_of_box, fills_of_patch, fills_of_slab, is_patch, patches_of, source_from, source_owner}
 use Rattle.pooma_fill.proofs.Listed.{HasLaws, no_source, patches_constant, patches_moving, source_owned}
-use Rattle.pooma_fill.proofs.Spans.{firsts_in}
 use Rattle.pooma_fill.proofs.FilledCells.{HasBox, IsTaken, constant_or_moving, has_box, ordered_by, total_cell, source_total_of}
 
 -- ---- elements of lists

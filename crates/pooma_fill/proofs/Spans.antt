@@ -5,19 +5,8 @@ use Rattle.std.proofs.lemmas.Int.{ints}
 use Rattle.std.proofs.lemmas.List.Elements.{All-head, All-tail}
 use Rattle.std.specs.Prelude.{◌≡◌, ◌↔◌, ℕ, ℤ, Some, None, List, [], ◌∷◌, length, map, slice_index_or, All, AllPairs, Contains}
 use Rattle.pooma_domain.specs.Cells.{Interval, IsBefore, IsIn, IsOrdered}
+use Rattle.pooma_field.proofs.SlabBoxes.{firsts_in, lasts_in}
 use Rattle.pooma_fill.specs.Boxes.{between, box_of, last_of}
-
-pub firsts_in : (box : List Interval) → All IsOrdered box → IsIn box (map (λ axis. axis.first) box)
-firsts_in [] h = tt
-firsts_in (axis ∷ axes) h =
-    let here : IsOrdered axis = All-head IsOrdered axis axes h in
-    (omega (arith, ints), omega (arith, ints, here), firsts_in axes (All-tail IsOrdered axis axes h))
-
-pub lasts_in : (box : List Interval) → All IsOrdered box → IsIn box (map (λ axis. axis.last) box)
-lasts_in [] h = tt
-lasts_in (axis ∷ axes) h =
-    let here : IsOrdered axis = All-head IsOrdered axis axes h in
-    (omega (arith, ints, here), omega (arith, ints), lasts_in axes (All-tail IsOrdered axis axes h))
 
 not_before_firsts : (box : List Interval) (c : List ℤ) → IsIn box c → IsBefore c (map (λ axis. axis.first) box) → ⊥
 not_before_firsts [] [] h before = before

@@ -12,10 +12,10 @@ use Rattle.pooma_field.specs.declared.updaters.Updater.TheVariants.{Constant, Pe
 use Rattle.pooma_field.specs.Shapes.{Shaped, IsAround, IsInSlabs, IsShape, beyond, slab_axes}
 use Rattle.pooma_field.specs.Slabs.{axis_at, coordinate_at, sources_along}
 use Rattle.pooma_field.specs.Updaters.{IsConstant}
+use Rattle.pooma_field.proofs.SlabBoxes.{firsts_in}
 use Rattle.pooma_fill.specs.Boxes.{IsBesideAxis, IsWithin}
 use Rattle.pooma_fill.specs.Filling.{number_from, source_from}
 use Rattle.pooma_fill.proofs.Beside.{long, some_beside}
-use Rattle.pooma_fill.proofs.Spans.{firsts_in}
 
 -- ---- a cell of slabs lies beside its axis
 
