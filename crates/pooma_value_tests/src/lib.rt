@@ -21,6 +21,8 @@ mod numbers;
 #[cfg(test)]
 mod patch;
 #[cfg(test)]
+mod slabs;
+#[cfg(test)]
 mod stencil;
 #[cfg(test)]
 mod store;
