@@ -206,6 +206,21 @@ const FILLS: &[(&[u8], &[Row])] = &[
             ([4, 0, 0], [5, 0, 0], &[(3, Write)]),
         ],
     ),
+    (
+        b"layout L (0:3) blocks (4) external (2)\nfield U on L faces constant 1, extrapolate\nprint U[5]\n",
+        &[
+            ([-2, 0, 0], [-1, 0, 0], &[(0, Write)]),
+            ([4, 0, 0], [5, 0, 0], &[(2, Read), (3, Write)]),
+        ],
+    ),
+    // A row of one cell has no other inside.
+    (
+        b"layout L (0:0) blocks (1) external (1)\nfield U on L faces extrapolate, extrapolate\nprint U[1]\n",
+        &[
+            ([-1, 0, 0], [-1, 0, 0], &[(0, Write)]),
+            ([1, 0, 0], [1, 0, 0], &[(0, Write)]),
+        ],
+    ),
     // A square of two patches beside each other.
     (
         b"layout L (0:1,0:1) blocks (2,1) external (1,1)\nfield U on L faces constant 5, periodic, antireflect, antireflect\nprint U[-1:2,-1:2]\n",
@@ -216,6 +231,26 @@ const FILLS: &[(&[u8], &[Row])] = &[
             ([1, -1, 0], [2, -1, 0], &[(1, Write)]),
             ([-1, 2, 0], [0, 2, 0], &[(0, Write)]),
             ([1, 2, 0], [2, 2, 0], &[(1, Write)]),
+        ],
+    ),
+    // A square of two patches by four, whose second axis has one cell a patch.
+    (
+        b"layout L (0:3,0:3) blocks (2,4) external (1,2)\nfield U on L faces reflect, extrapolate, extrapolate, reflect\nprint U[-1,0]\n",
+        &[
+            ([-1, 0, 0], [-1, 0, 0], &[(0, Write)]),
+            ([-1, 1, 0], [-1, 1, 0], &[(2, Write)]),
+            ([-1, 2, 0], [-1, 2, 0], &[(4, Write)]),
+            ([-1, 3, 0], [-1, 3, 0], &[(6, Write)]),
+            ([4, 0, 0], [4, 0, 0], &[(1, Write)]),
+            ([4, 1, 0], [4, 1, 0], &[(3, Write)]),
+            ([4, 2, 0], [4, 2, 0], &[(5, Write)]),
+            ([4, 3, 0], [4, 3, 0], &[(7, Write)]),
+            ([-1, -2, 0], [1, -1, 0], &[(0, Write), (2, Read)]),
+            ([2, -2, 0], [4, -1, 0], &[(1, Write), (3, Read)]),
+            ([-1, 5, 0], [1, 5, 0], &[(4, Read), (6, Write)]),
+            ([-1, 4, 0], [1, 4, 0], &[(6, Write)]),
+            ([2, 5, 0], [4, 5, 0], &[(5, Read), (7, Write)]),
+            ([2, 4, 0], [4, 4, 0], &[(7, Write)]),
         ],
     ),
     // A cube of two patches, one behind the other on the last axis.
@@ -232,6 +267,34 @@ const FILLS: &[(&[u8], &[Row])] = &[
             ([-1, 2, 1], [2, 2, 1], &[(1, Write)]),
             ([-1, -1, -1], [2, 2, -1], &[(0, Write), (1, Read)]),
             ([-1, -1, 2], [2, 2, 2], &[(0, Read), (1, Write)]),
+        ],
+    ),
+    // A cube of four patches, two by one by two.
+    (
+        b"layout L (0:1,0:1,0:1) blocks (2,1,2) external (2,1,2)\nfield U on L faces extrapolate, reflect, reflect, extrapolate, antireflect, reflect\nprint U[0,2,0]\n",
+        &[
+            ([-2, 0, 0], [-1, 1, 0], &[(0, Write), (1, Read)]),
+            ([-2, 0, 1], [-1, 1, 1], &[(2, Write), (3, Read)]),
+            ([3, 0, 0], [3, 1, 0], &[(0, Read), (1, Write)]),
+            ([2, 0, 0], [2, 1, 0], &[(1, Write)]),
+            ([3, 0, 1], [3, 1, 1], &[(2, Read), (3, Write)]),
+            ([2, 0, 1], [2, 1, 1], &[(3, Write)]),
+            ([-2, -1, 0], [0, -1, 0], &[(0, Write)]),
+            ([1, -1, 0], [3, -1, 0], &[(1, Write)]),
+            ([-2, -1, 1], [0, -1, 1], &[(2, Write)]),
+            ([1, -1, 1], [3, -1, 1], &[(3, Write)]),
+            ([-2, 2, 0], [0, 2, 0], &[(0, Write)]),
+            ([1, 2, 0], [3, 2, 0], &[(1, Write)]),
+            ([-2, 2, 1], [0, 2, 1], &[(2, Write)]),
+            ([1, 2, 1], [3, 2, 1], &[(3, Write)]),
+            ([-2, -1, -1], [0, 2, -1], &[(0, Write)]),
+            ([-2, -1, -2], [0, 2, -2], &[(0, Write), (2, Read)]),
+            ([1, -1, -1], [3, 2, -1], &[(1, Write)]),
+            ([1, -1, -2], [3, 2, -2], &[(1, Write), (3, Read)]),
+            ([-2, -1, 3], [0, 2, 3], &[(0, Read), (2, Write)]),
+            ([-2, -1, 2], [0, 2, 2], &[(2, Write)]),
+            ([1, -1, 3], [3, 2, 3], &[(1, Read), (3, Write)]),
+            ([1, -1, 2], [3, 2, 2], &[(3, Write)]),
         ],
     ),
 ];

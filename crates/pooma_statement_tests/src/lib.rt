@@ -14,3 +14,5 @@ mod run;
 mod scene;
 #[cfg(test)]
 mod split;
+#[cfg(test)]
+mod workers;
