@@ -64,7 +64,7 @@ fn two_objects(alloc: Global) -> Option<Machine<Adding>>
     Machine::new(alloc, values).ok()
 }
 
-// Requests a write of the object.
+/// Requests a write of the object.
 pub(crate) fn ask<R: Wait>(
     rt: &R,
     alloc: Global,

@@ -1,10 +1,11 @@
-ghost use Rattle.std.specs.Prelude.{◌≡◌, ◌≤◌, IfSome, IsTrue, length};
-ghost use Rattle.pooma_expr.specs.Trees.{axes_needed};
+ghost use Rattle.std.specs.Prelude.{◌≡◌, ◌≤◌, ◌∷◌, [], IfSome, IsTrue, length};
+ghost use Rattle.pooma_view.specs.Overlap.{IsOverlap};
+ghost use Rattle.pooma_expr.specs.Trees.{axes_needed, views_of};
 ghost use Rattle.pooma_piece.specs.Pieces.{HasPositions};
 
 use pooma_domain::{Axis, BoxN, Cell, Strided, boxes_within_boxes};
 use pooma_expr::{Code, Expr, Op, Reduction};
-use pooma_machine::Work;
+use pooma_machine::{Mode, Request, Work};
 use pooma_num::FaultKind;
 use pooma_patch::Patch;
 use pooma_piece::{MOST_POSITIONS, Outcome, Piece, Task, run_piece};
@@ -190,4 +191,71 @@ fn reduced(alloc: Global, reduction: Reduction) -> Option<i64> {
 fn reductions_of_three_numbers(rt: HostRuntime) {
     assert!(rt; reduced(rt.alloc(), Reduction::Sum) == Some(9));
     assert!(rt; reduced(rt.alloc(), Reduction::Min) == Some(2));
+}
+
+// The one view that the code reads, if it reads one.
+fn one_view(code: &Code) -> Option<View>
+    ensures { IfSome result (λ view. views_of code.now ≡ view ∷ []) }
+{
+    match code.reads() {
+        [view] => Some(*view),
+        _ => None,
+    }
+}
+
+// Whether no cell that is set is read at another position.
+fn are_apart(view: &View, target: &View) -> bool
+    ensures { IsTrue result → IsOverlap view.now target.now → ⊥ }
+{
+    view.has_positions() && target.has_positions() && !view.overlaps(target)
+}
+
+// A piece of statement 3 that sets cells of the target in object 5 to those of the view that the code reads in this object.
+fn copying(alloc: Global, positions: BoxN, target: View, code: Code, object: u32) -> Option<Piece>
+    requires axes { axes_needed code ≤ 1 }
+    requires dims { length positions ≡ 1 }
+{
+    let view = one_view(&code)?;
+    if !are_positions(&positions, &view) || !are_positions(&positions, &target) {
+        return None;
+    }
+    if !are_apart(&view, &target) || object == 5 && view.array() != target.array() {
+        return None;
+    }
+    if positions.count() > MOST_POSITIONS {
+        return None;
+    }
+    let task = Task::Assign { target };
+    Piece::new(alloc, 3, positions, task, code, Some(5), &[object]).ok()
+}
+
+// The requests of a piece of statement 3 that sets cells of array 0 in object 5 to those of an array that is read in this
+// object.
+fn requests(alloc: Global, array: u32, object: u32) -> Option<Vec<Request>> {
+    let code = code_of(alloc, Ok(Expr::Read(eight(array))))?;
+    let piece = copying(alloc, from_to(0, 7)?, eight(0), code, object)?;
+    Vec::from_slice(alloc, piece.requests()).ok()
+}
+
+// Whether these are the requests, in this order.
+fn are_requests(asked: Option<Vec<Request>>, rows: &[(u32, Mode)]) -> bool {
+    let Some(asked) = asked else {
+        return false;
+    };
+    for (request, row) in asked.iter().zip(rows) {
+        if (request.object, request.mode) != *row {
+            return false;
+        }
+    }
+    asked.len() == rows.len()
+}
+
+#[test]
+fn one_request_for_each_object(rt: HostRuntime) {
+    let alloc = rt.alloc();
+    let low = &[(2, Mode::Read), (5, Mode::Write)];
+    let high = &[(5, Mode::Write), (7, Mode::Read)];
+    assert!(rt; are_requests(requests(alloc, 1, 2), low));
+    assert!(rt; are_requests(requests(alloc, 1, 7), high));
+    assert!(rt; are_requests(requests(alloc, 0, 5), &[(5, Mode::Write)]));
 }
