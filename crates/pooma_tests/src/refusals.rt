@@ -1,566 +1,250 @@
 //! Scripts that are refused, each at its line and for its cause, and scripts at the limits that are not.
-use crate::run::{first_wrong, run};
+use crate::run::{push_lines, run};
 use pooma_text::decimal;
 use pooma_top::Status;
 use std::alloc::{AllocError, Global};
 
-const REFUSED: &[(&[u8], &[u8])] = &[
-    (b"A = 7\n", b"refused line 1: name\n"),
-    (b"brick A (0:3)\nA = B\n", b"refused line 2: name\n"),
-    (b"brick A (0:3)\nbrick A (0:3)\n", b"refused line 2: name\n"),
+/// Scripts that are refused, by their cause. Each row is the number of the line at which the script is refused, and its lines, with a
+/// semicolon between them.
+const REFUSED: &[(&str, &str)] = &[
     (
-        b"brick A (0:3)\nlayout A (0:3) blocks (1)\n",
-        b"refused line 2: name\n",
-    ),
-    (b"brick A (0:3)\n\nprint B\n", b"refused line 3: name\n"),
-    (b"brick A (0:3)\narray B on A\n", b"refused line 2: name\n"),
-    (
-        b"stencil S lower (0) upper (0) = @(0)\nbrick A (0:3)\nA = S\n",
-        b"refused line 3: name\n",
-    ),
-    (b"scalar s = 1\ns = 2\n", b"refused line 2: name\n"),
-    (b"scalar s = 1\nprint s[0]\n", b"refused line 2: name\n"),
-    (b"brick A (0:3)\nscalar A = 1\n", b"refused line 2: name\n"),
-    (b"scalar s = t\n", b"refused line 1: name\n"),
-    (b"brick A (0:3)\nA = T(A)\n", b"refused line 2: name\n"),
-    (
-        b"layout L (0:3) blocks (1)\nprint L\n",
-        b"refused line 2: name\n",
-    ),
-    (b"brick A (0:3)\nprint A A\n", b"refused line 2: syntax\n"),
-    (b"brick A (0:3))\n", b"refused line 1: syntax\n"),
-    (b"brick A (0:3\n", b"refused line 1: syntax\n"),
-    (b"brick A 0:3)\n", b"refused line 1: syntax\n"),
-    (b"brick A (--1:3)\n", b"refused line 1: syntax\n"),
-    (b"brick A (0,3)\n", b"refused line 1: syntax\n"),
-    (b"brick 1 (0:3)\n", b"refused line 1: syntax\n"),
-    (b"brick B(00:+0)\n", b"refused line 1: syntax\n"),
-    (
-        b"brick A (0:99999999999999999999)\n",
-        b"refused line 1: syntax\n",
+        "name",
+        "1 A = 7
+2 brick A (0:3);A = B
+2 brick A (0:3);brick A (0:3)
+2 brick A (0:3);layout A (0:3) blocks (1)
+3 brick A (0:3);;print B
+2 brick A (0:3);array B on A
+3 stencil S lower (0) upper (0) = @(0);brick A (0:3);A = S
+2 scalar s = 1;s = 2
+2 scalar s = 1;print s[0]
+2 brick A (0:3);scalar A = 1
+1 scalar s = t
+2 brick A (0:3);A = T(A)
+2 layout L (0:3) blocks (1);print L
+3 brick A (0:9);brick B (0:9);A[0:2] = C[0:3]
+2 brick A (0:9);A[3:2] = Q",
     ),
     (
-        b"brick A (0:3)\nA = 9223372036854775808\n",
-        b"refused line 2: syntax\n",
-    ),
-    (b"brick A (0:3)\nA = +1\n", b"refused line 2: syntax\n"),
-    (b"brick A (0:3)\nA == 1\n", b"refused line 2: syntax\n"),
-    (b"brick A (0:3)\nA = 1 2\n", b"refused line 2: syntax\n"),
-    (b"brick A (0:3)\nA =\n", b"refused line 2: syntax\n"),
-    (b"brick A (0:3)\nprint A\n!\n", b"refused line 3: syntax\n"),
-    (
-        b"brick A (0:3)\nA = index(0) < 1 < 2\n",
-        b"refused line 2: syntax\n",
-    ),
-    (b"brick A (0:3)\nA = max(A)\n", b"refused line 2: syntax\n"),
-    (b"end\n", b"refused line 1: syntax\n"),
-    (
-        b"repeat 2\nbrick A (0:3)\nend\n",
-        b"refused line 2: syntax\n",
-    ),
-    (
-        b"repeat 2\nlayout L (0:3) blocks (1)\nend\n",
-        b"refused line 2: syntax\n",
-    ),
-    (b"script 2\n", b"refused line 1: syntax\n"),
-    (b"dynamic D capacity 9\n", b"refused line 1: syntax\n"),
-    (
-        b"brick A (0:1,0:1,0:1,0:1)\n",
-        b"refused line 1: dimension\n",
+        "syntax",
+        "2 brick A (0:3);print A A
+1 brick A (0:3))
+1 brick A (0:3
+1 brick A 0:3)
+1 brick A (--1:3)
+1 brick A (0,3)
+1 brick 1 (0:3)
+1 brick B(00:+0)
+1 brick A (0:99999999999999999999)
+2 brick A (0:3);A = 9223372036854775808
+2 brick A (0:3);A = +1
+2 brick A (0:3);A == 1
+2 brick A (0:3);A = 1 2
+2 brick A (0:3);A =
+3 brick A (0:3);print A;!
+2 brick A (0:3);A = index(0) < 1 < 2
+2 brick A (0:3);A = max(A)
+1 end
+2 repeat 2;brick A (0:3);end
+2 repeat 2;layout L (0:3) blocks (1);end
+1 script 2
+1 dynamic D capacity 9",
     ),
     (
-        b"layout L (0:3,0:3) blocks (2)\n",
-        b"refused line 1: dimension\n",
+        "dimension",
+        "1 brick A (0:1,0:1,0:1,0:1)
+1 layout L (0:3,0:3) blocks (2)
+1 layout L (0:3) cuts ((1),(2))
+1 layout L (0:3) blocks (2) internal (1,1)
+1 layout L (0:3) blocks (2) external (1,1)
+2 layout L (0:3) blocks (2);field U on L faces periodic
+2 layout L (0:3,0:3) blocks (2,1);field U on L faces periodic, periodic
+1 stencil S lower (1,1) upper (1) = @(0,0)
+1 stencil S lower (1) upper (1) = @(0,0)
+1 stencil S lower (1,1,1,1) upper (1,1,1,1) = 1
+2 brick A (0:3);print A[0,0]
+2 brick A (0:3,0:3);print A[0]
+2 brick A (0:3);A = index(1)
+1 scalar s = index(0)
+2 brick A (0:3);scalar s = A
+3 brick A (0:3);brick B (0:3,0:3);A = B
+3 brick A (0:3);brick B (0:3,0:3);A = B[0:3,0] + B
+4 stencil S lower (1,1) upper (1,1) = @(0,0);brick A (0:3);brick B (0:3);B[1:2] = S(A)
+2 brick A (0:3);scalar s = sum(A + index(1))
+2 brick A (0:9);A[3:2] = A[0,0]
+2 brick A (0:9);A[3:2] = A[11]",
     ),
     (
-        b"layout L (0:3) cuts ((1),(2))\n",
-        b"refused line 1: dimension\n",
+        "empty",
+        "1 brick A (3:0)
+1 layout L (0:3) blocks (0)
+1 layout L (0:3) blocks (5)
+1 layout L (0:9) cuts ((4,4))
+1 layout L (0:9) cuts ((7,4))
+2 brick A (0:3);print A[3:2]
+2 brick A (0:3);print A[0:3:0]
+2 brick A (0:3);print A[0:3:-1]
+1 repeat 0;block;end
+3 stencil S lower (2) upper (2) = @(0);brick A (0:3);A = S(A)",
     ),
     (
-        b"layout L (0:3) blocks (2) internal (1,1)\n",
-        b"refused line 1: dimension\n",
+        "outside",
+        "1 layout L (0:9) cuts ((0,4))
+1 layout L (0:9) cuts ((4,10))
+1 stencil S lower (1) upper (1) = @(2)
+1 stencil S lower (1) upper (1) = @(-2)
+2 brick A (0:3);print A[4]
+2 brick A (0:3);print A[-1:2]
+2 brick A (0:3);A[0:4] = 1
+3 brick A (0:3);print A[0:5:10];print A[0:9:3]
+3 layout L (0:3) blocks (1) external (1);field U on L faces periodic, periodic;U[-1] = 3
+4 layout L (0:3) blocks (1) external (1);array A on L;A[-1:4] = 3;A[5] = 3
+2 brick A (0:9);A[0:12] = A[0:1]",
     ),
     (
-        b"layout L (0:3) blocks (2) external (1,1)\n",
-        b"refused line 1: dimension\n",
+        "unequal",
+        "3 brick A (0:9);brick B (0:9);A[0:2] = B[0:3]
+2 brick A (0:9);A[0:2] = A[5:7] + A[0:3]
+4 stencil S lower (1) upper (1) = @(0);brick A (0:9);brick B (0:9);B = S(A)
+2 brick A (0:9);scalar s = sum(A[0:2] + A[0:3])
+2 brick A (0:9);A[1:9] = A[0:7]",
     ),
     (
-        b"layout L (0:3) blocks (2)\nfield U on L faces periodic\n",
-        b"refused line 2: dimension\n",
+        "overlap",
+        "2 brick A (0:7);A[1:7] = A[0:6]
+2 brick A (0:7);A = A[7:0:-1]
+2 brick A (0:7);A[0:2] += A[2:4]
+2 brick A (0:3,0:3);A[2,0:3] = A[0:3,3]
+3 stencil S lower (1) upper (1) = @(-1) + @(1);brick A (0:9);A[1:8] = S(A)",
     ),
     (
-        b"layout L (0:3,0:3) blocks (2,1)\nfield U on L faces periodic, periodic\n",
-        b"refused line 2: dimension\n",
-    ),
-    (
-        b"stencil S lower (1,1) upper (1) = @(0,0)\n",
-        b"refused line 1: dimension\n",
-    ),
-    (
-        b"stencil S lower (1) upper (1) = @(0,0)\n",
-        b"refused line 1: dimension\n",
-    ),
-    (
-        b"stencil S lower (1,1,1,1) upper (1,1,1,1) = 1\n",
-        b"refused line 1: dimension\n",
-    ),
-    (
-        b"brick A (0:3)\nprint A[0,0]\n",
-        b"refused line 2: dimension\n",
-    ),
-    (
-        b"brick A (0:3,0:3)\nprint A[0]\n",
-        b"refused line 2: dimension\n",
-    ),
-    (
-        b"brick A (0:3)\nA = index(1)\n",
-        b"refused line 2: dimension\n",
-    ),
-    (b"scalar s = index(0)\n", b"refused line 1: dimension\n"),
-    (
-        b"brick A (0:3)\nscalar s = A\n",
-        b"refused line 2: dimension\n",
-    ),
-    (
-        b"brick A (0:3)\nbrick B (0:3,0:3)\nA = B\n",
-        b"refused line 3: dimension\n",
-    ),
-    (
-        b"brick A (0:3)\nbrick B (0:3,0:3)\nA = B[0:3,0] + B\n",
-        b"refused line 3: dimension\n",
-    ),
-    (
-        b"stencil S lower (1,1) upper (1,1) = @(0,0)\nbrick A (0:3)\nbrick B (0:3)\nB[1:2] = S(A)\n",
-        b"refused line 4: dimension\n",
-    ),
-    (
-        b"brick A (0:3)\nscalar s = sum(A + index(1))\n",
-        b"refused line 2: dimension\n",
-    ),
-    (b"brick A (3:0)\n", b"refused line 1: empty\n"),
-    (b"layout L (0:3) blocks (0)\n", b"refused line 1: empty\n"),
-    (b"layout L (0:3) blocks (5)\n", b"refused line 1: empty\n"),
-    (b"layout L (0:9) cuts ((4,4))\n", b"refused line 1: empty\n"),
-    (b"layout L (0:9) cuts ((7,4))\n", b"refused line 1: empty\n"),
-    (b"brick A (0:3)\nprint A[3:2]\n", b"refused line 2: empty\n"),
-    (
-        b"brick A (0:3)\nprint A[0:3:0]\n",
-        b"refused line 2: empty\n",
-    ),
-    (
-        b"brick A (0:3)\nprint A[0:3:-1]\n",
-        b"refused line 2: empty\n",
-    ),
-    (b"repeat 0\nblock\nend\n", b"refused line 1: empty\n"),
-    (
-        b"stencil S lower (2) upper (2) = @(0)\nbrick A (0:3)\nA = S(A)\n",
-        b"refused line 3: empty\n",
-    ),
-    (
-        b"layout L (0:9) cuts ((0,4))\n",
-        b"refused line 1: outside\n",
-    ),
-    (
-        b"layout L (0:9) cuts ((4,10))\n",
-        b"refused line 1: outside\n",
-    ),
-    (
-        b"stencil S lower (1) upper (1) = @(2)\n",
-        b"refused line 1: outside\n",
-    ),
-    (
-        b"stencil S lower (1) upper (1) = @(-2)\n",
-        b"refused line 1: outside\n",
-    ),
-    (b"brick A (0:3)\nprint A[4]\n", b"refused line 2: outside\n"),
-    (
-        b"brick A (0:3)\nprint A[-1:2]\n",
-        b"refused line 2: outside\n",
-    ),
-    (b"brick A (0:3)\nA[0:4] = 1\n", b"refused line 2: outside\n"),
-    (
-        b"brick A (0:3)\nprint A[0:5:10]\nprint A[0:9:3]\n",
-        b"refused line 3: outside\n",
-    ),
-    (
-        b"layout L (0:3) blocks (1) external (1)\nfield U on L faces periodic, periodic\nU[-1] = 3\n",
-        b"refused line 3: outside\n",
-    ),
-    (
-        b"layout L (0:3) blocks (1) external (1)\narray A on L\nA[-1:4] = 3\nA[5] = 3\n",
-        b"refused line 4: outside\n",
-    ),
-    (
-        b"brick A (0:9)\nbrick B (0:9)\nA[0:2] = B[0:3]\n",
-        b"refused line 3: unequal\n",
-    ),
-    (
-        b"brick A (0:9)\nbrick B (0:9)\nA[0:2] = C[0:3]\n",
-        b"refused line 3: name\n",
-    ),
-    (
-        b"brick A (0:9)\nA[0:2] = A[5:7] + A[0:3]\n",
-        b"refused line 2: unequal\n",
-    ),
-    (
-        b"stencil S lower (1) upper (1) = @(0)\nbrick A (0:9)\nbrick B (0:9)\nB = S(A)\n",
-        b"refused line 4: unequal\n",
-    ),
-    (
-        b"brick A (0:9)\nscalar s = sum(A[0:2] + A[0:3])\n",
-        b"refused line 2: unequal\n",
-    ),
-    (
-        b"brick A (0:7)\nA[1:7] = A[0:6]\n",
-        b"refused line 2: overlap\n",
-    ),
-    (
-        b"brick A (0:7)\nA = A[7:0:-1]\n",
-        b"refused line 2: overlap\n",
-    ),
-    (
-        b"brick A (0:7)\nA[0:2] += A[2:4]\n",
-        b"refused line 2: overlap\n",
-    ),
-    (
-        b"brick A (0:3,0:3)\nA[2,0:3] = A[0:3,3]\n",
-        b"refused line 2: overlap\n",
-    ),
-    (
-        b"stencil S lower (1) upper (1) = @(-1) + @(1)\nbrick A (0:9)\nA[1:8] = S(A)\n",
-        b"refused line 3: overlap\n",
-    ),
-    (
-        b"brick A (0:0)\nrepeat 2\nA = 1\n",
-        b"refused line 4: open repeat\n",
-    ),
-    (
-        b"repeat 2\nrepeat 3\nblock\nend\n",
-        b"refused line 5: open repeat\n",
-    ),
-    (b"brick A (0:9)\nA[3:2] = Q\n", b"refused line 2: name\n"),
-    (
-        b"brick A (0:9)\nA[3:2] = A[0,0]\n",
-        b"refused line 2: dimension\n",
-    ),
-    (
-        b"brick A (0:9)\nA[3:2] = A[11]\n",
-        b"refused line 2: dimension\n",
-    ),
-    (
-        b"brick A (0:9)\nA[0:12] = A[0:1]\n",
-        b"refused line 2: outside\n",
-    ),
-    (
-        b"brick A (0:9)\nA[1:9] = A[0:7]\n",
-        b"refused line 2: unequal\n",
+        "open repeat",
+        "4 brick A (0:0);repeat 2;A = 1
+5 repeat 2;repeat 3;block;end",
     ),
 ];
+
+// Whether the script of a row is refused at its line for this cause.
+fn is_refused(alloc: Global, cause: &str, row: &str) -> Result<bool, AllocError> {
+    let Some((line, lines)) = row.split_once(' ') else {
+        return Ok(false);
+    };
+    let mut script = Vec::new(alloc);
+    push_lines(&mut script, lines)?;
+    script.push(b'\n')?;
+    let text = format!(in alloc; "refused line {line}: {cause}\n")?;
+    let ended = run(alloc, &["run", "1"], &script)?;
+    Ok(ended.status == Status::Refused && ended.text.as_slice() == text.as_bytes())
+}
+
+// The place of the first row that is not refused for this cause.
+fn first_otherwise(alloc: Global, cause: &str, rows: &str) -> Result<Option<usize>, AllocError> {
+    for (place, row) in rows.split('\n').enumerate() {
+        if !is_refused(alloc, cause, row)? {
+            return Ok(Some(place));
+        }
+    }
+    Ok(None)
+}
 
 #[test]
 fn lines_are_refused_for_their_causes(rt: HostRuntime) {
-    let wrong = first_wrong(rt.alloc(), &["run", "1"], REFUSED, Status::Refused);
-    assert!(rt; wrong == Ok(None), "{wrong:?}");
+    for (cause, rows) in REFUSED {
+        let place = first_otherwise(rt.alloc(), cause, rows);
+        assert!(rt; place == Ok(None), "{cause} {place:?}");
+    }
 }
 
-// A front, so many times a part, a middle, so many times an end; and what `check` answers.
-type Repeated = (
-    &'static [u8],
-    &'static [u8],
-    usize,
-    &'static [u8],
-    &'static [u8],
-    &'static [u8],
-);
+// What `check` answers to a script, which is a front, so many times a part, a middle, and so many times an end. A row has these six
+// in this order; its last ones may be left out, and are nothing then. Semicolons are the ends of the script's lines.
+const LIMITS: &str = "refused line 10001: limit (lines)||10001|;
+ok||10000|;
+ok|brick A (0:1);|9998|;|print A;
+refused line 10001: limit (lines)|brick A (0:1);|9999|;|print A;
+ok|brick |32|a| (0:1);
+refused line 1: limit (name)|brick |33|a| (0:1);
+refused line 1: limit (name)|scalar |33|a| = 1;
+ok|brick A (0:1000000);
+ok|brick A (1000000:1000000);
+refused line 1: limit (coordinate)|brick A (0:1000001);
+refused line 1: limit (coordinate)|brick A (-1000001:-1000001);
+ok|brick A (0:2047,0:2047);
+refused line 1: limit (array cells)|brick A (0:2047,0:2048);
+ok|brick A (0:2047,0:2047);brick B (0:2047,0:2047);brick C (0:2047,0:2047);brick D (0:2047,0:2047);
+refused line 5: limit (allocated cells)|brick A (0:2047,0:2047);brick B (0:2047,0:2047);brick C (0:2047,0:2047);brick D (0:2047,0:2047);brick E (0:0);
+ok|layout L (0:9) blocks (1) internal (8) external (8);
+refused line 1: limit (guards)|layout L (0:9) blocks (1) internal (9);
+refused line 1: limit (guards)|layout L (0:9) blocks (1) external (9);
+refused line 1: limit (guards)|layout L (0:1) blocks (1) external (3);
+ok|layout L (0:15,0:15) blocks (16,16);
+refused line 1: limit (patches)|layout L (0:19,0:19) blocks (17,16);
+ok|stencil S lower (8) upper (8) = @(0);
+refused line 1: limit (extents)|stencil S lower (9) upper (8) = @(0);
+ok|scalar a = 1|255|+1|;
+refused line 1: limit (depth)|scalar a = 1|256|+1|;
+refused line 1: limit (depth)|stencil S lower (0) upper (0) = 1|256|+1|;
+ok|scalar a = |64|(|1|)
+refused line 1: syntax|scalar a = |65|(|1|)
+ok|brick A (0:1);scalar a = sum(A|63|+A|);
+refused line 2: limit (views)|brick A (0:1);scalar a = sum(A|64|+A|);
+ok||4|repeat 2;|block;|end;
+refused line 5: limit (repeats)||5|repeat 2;|block;|end;
+ok|repeat 1048576;block;end;
+refused line 2: limit (statements)|repeat 1048577;block;end;
+refused line 4: limit (statements)|repeat 1048576;block;end;block;
+refused line 5: limit (statements)||4|repeat 999999999;|block;|end;
+ok||4|repeat 999999999;||end;
+refused line 3: limit (printed values)|brick A (0:2047,0:2047);print A;print A[0,0];
+ok|brick A (0:2047,0:2047);print A;
+refused line 3: limit (statements)|scalar s = 1;repeat 1048577;print s;end;
+ok|brick A (0:0);A = |19|1|;
+refused line 2: syntax|brick A (0:0);A = |20|1|;
+ok|brick A (0:0);A = |200|0|7;
+ok|#|1048575|x
+refused line 0: limit (script bytes)|#|1048576|x
+refused line 1: syntax||4096|+|;
+refused line 1: syntax||4097|+|;";
 
-const LIMITS: &[Repeated] = &[
-    (
-        b"",
-        b"\n",
-        10001,
-        b"",
-        b"",
-        b"refused line 10001: limit (lines)\n",
-    ),
-    (b"", b"\n", 10000, b"", b"", b"ok\n"),
-    (b"brick A (0:1)\n", b"\n", 9998, b"print A\n", b"", b"ok\n"),
-    (
-        b"brick A (0:1)\n",
-        b"\n",
-        9999,
-        b"print A\n",
-        b"",
-        b"refused line 10001: limit (lines)\n",
-    ),
-    (b"brick ", b"a", 32, b" (0:1)\n", b"", b"ok\n"),
-    (
-        b"brick ",
-        b"a",
-        33,
-        b" (0:1)\n",
-        b"",
-        b"refused line 1: limit (name)\n",
-    ),
-    (
-        b"scalar ",
-        b"a",
-        33,
-        b" = 1\n",
-        b"",
-        b"refused line 1: limit (name)\n",
-    ),
-    (b"brick A (0:1000000", b"", 0, b")\n", b"", b"ok\n"),
-    (b"brick A (1000000:1000000)\n", b"", 0, b"", b"", b"ok\n"),
-    (
-        b"brick A (0:1000001)\n",
-        b"",
-        0,
-        b"",
-        b"",
-        b"refused line 1: limit (coordinate)\n",
-    ),
-    (
-        b"brick A (-1000001:-1000001)\n",
-        b"",
-        0,
-        b"",
-        b"",
-        b"refused line 1: limit (coordinate)\n",
-    ),
-    (b"brick A (0:2047,0:2047)\n", b"", 0, b"", b"", b"ok\n"),
-    (
-        b"brick A (0:2047,0:2048)\n",
-        b"",
-        0,
-        b"",
-        b"",
-        b"refused line 1: limit (array cells)\n",
-    ),
-    (
-        b"brick A (0:2047,0:2047)\nbrick B (0:2047,0:2047)\nbrick C (0:2047,0:2047)\nbrick D (0:2047,0:2047)\n",
-        b"",
-        0,
-        b"",
-        b"",
-        b"ok\n",
-    ),
-    (
-        b"brick A (0:2047,0:2047)\nbrick B (0:2047,0:2047)\nbrick C (0:2047,0:2047)\nbrick D (0:2047,0:2047)\nbrick E (0:0)\n",
-        b"",
-        0,
-        b"",
-        b"",
-        b"refused line 5: limit (allocated cells)\n",
-    ),
-    (
-        b"layout L (0:9) blocks (1) internal (8) external (8)\n",
-        b"",
-        0,
-        b"",
-        b"",
-        b"ok\n",
-    ),
-    (
-        b"layout L (0:9) blocks (1) internal (9)\n",
-        b"",
-        0,
-        b"",
-        b"",
-        b"refused line 1: limit (guards)\n",
-    ),
-    (
-        b"layout L (0:9) blocks (1) external (9)\n",
-        b"",
-        0,
-        b"",
-        b"",
-        b"refused line 1: limit (guards)\n",
-    ),
-    (
-        b"layout L (0:1) blocks (1) external (3)\n",
-        b"",
-        0,
-        b"",
-        b"",
-        b"refused line 1: limit (guards)\n",
-    ),
-    (
-        b"layout L (0:15,0:15) blocks (16,16)\n",
-        b"",
-        0,
-        b"",
-        b"",
-        b"ok\n",
-    ),
-    (
-        b"layout L (0:19,0:19) blocks (17,16)\n",
-        b"",
-        0,
-        b"",
-        b"",
-        b"refused line 1: limit (patches)\n",
-    ),
-    (
-        b"stencil S lower (8) upper (8) = @(0)\n",
-        b"",
-        0,
-        b"",
-        b"",
-        b"ok\n",
-    ),
-    (
-        b"stencil S lower (9) upper (8) = @(0)\n",
-        b"",
-        0,
-        b"",
-        b"",
-        b"refused line 1: limit (extents)\n",
-    ),
-    (b"scalar a = 1", b"+1", 255, b"\n", b"", b"ok\n"),
-    (
-        b"scalar a = 1",
-        b"+1",
-        256,
-        b"\n",
-        b"",
-        b"refused line 1: limit (depth)\n",
-    ),
-    (
-        b"stencil S lower (0) upper (0) = 1",
-        b"+1",
-        256,
-        b"\n",
-        b"",
-        b"refused line 1: limit (depth)\n",
-    ),
-    (b"scalar a = ", b"(", 64, b"1", b")", b"ok\n"),
-    (
-        b"scalar a = ",
-        b"(",
-        65,
-        b"1",
-        b")",
-        b"refused line 1: syntax\n",
-    ),
-    (
-        b"brick A (0:1)\nscalar a = sum(A",
-        b"+A",
-        63,
-        b")\n",
-        b"",
-        b"ok\n",
-    ),
-    (
-        b"brick A (0:1)\nscalar a = sum(A",
-        b"+A",
-        64,
-        b")\n",
-        b"",
-        b"refused line 2: limit (views)\n",
-    ),
-    (b"", b"repeat 2\n", 4, b"block\n", b"end\n", b"ok\n"),
-    (
-        b"",
-        b"repeat 2\n",
-        5,
-        b"block\n",
-        b"end\n",
-        b"refused line 5: limit (repeats)\n",
-    ),
-    (b"repeat 1048576\nblock\nend\n", b"", 0, b"", b"", b"ok\n"),
-    (
-        b"repeat 1048577\nblock\nend\n",
-        b"",
-        0,
-        b"",
-        b"",
-        b"refused line 2: limit (statements)\n",
-    ),
-    (
-        b"repeat 1048576\nblock\nend\nblock\n",
-        b"",
-        0,
-        b"",
-        b"",
-        b"refused line 4: limit (statements)\n",
-    ),
-    (
-        b"",
-        b"repeat 999999999\n",
-        4,
-        b"block\n",
-        b"end\n",
-        b"refused line 5: limit (statements)\n",
-    ),
-    (b"", b"repeat 999999999\n", 4, b"", b"end\n", b"ok\n"),
-    (
-        b"brick A (0:2047,0:2047)\nprint A\nprint A[0,0]\n",
-        b"",
-        0,
-        b"",
-        b"",
-        b"refused line 3: limit (printed values)\n",
-    ),
-    (
-        b"brick A (0:2047,0:2047)\nprint A\n",
-        b"",
-        0,
-        b"",
-        b"",
-        b"ok\n",
-    ),
-    (
-        b"scalar s = 1\nrepeat 1048577\nprint s\nend\n",
-        b"",
-        0,
-        b"",
-        b"",
-        b"refused line 3: limit (statements)\n",
-    ),
-    (b"brick A (0:0)\nA = ", b"1", 19, b"\n", b"", b"ok\n"),
-    (
-        b"brick A (0:0)\nA = ",
-        b"1",
-        20,
-        b"\n",
-        b"",
-        b"refused line 2: syntax\n",
-    ),
-    (b"brick A (0:0)\nA = ", b"0", 200, b"7\n", b"", b"ok\n"),
-    (b"#", b"x", 1048575, b"", b"", b"ok\n"),
-    (
-        b"#",
-        b"x",
-        1048576,
-        b"",
-        b"",
-        b"refused line 0: limit (script bytes)\n",
-    ),
-    (b"", b"+", 4096, b"\n", b"", b"refused line 1: syntax\n"),
-    (b"", b"+", 4097, b"\n", b"", b"refused line 1: syntax\n"),
-];
+// The text of a column, or nothing where the row has none.
+fn column<'a>(columns: &[&'a str], place: usize) -> &'a str {
+    match columns.get(place) {
+        Some(text) => text,
+        None => "",
+    }
+}
 
 // The script of a row.
-fn repeated(alloc: Global, row: &Repeated) -> Result<Vec<u8>, AllocError> {
-    let mut text = Vec::from_slice(alloc, row.0)?;
-    for _ in 0..row.2 {
-        text.extend_from_slice(row.1)?;
+fn repeated(alloc: Global, columns: &[&str], count: usize) -> Result<Vec<u8>, AllocError> {
+    let mut script = Vec::new(alloc);
+    push_lines(&mut script, column(columns, 1))?;
+    for _ in 0..count {
+        push_lines(&mut script, column(columns, 3))?;
     }
-    text.extend_from_slice(row.3)?;
-    for _ in 0..row.2 {
-        text.extend_from_slice(row.4)?;
+    push_lines(&mut script, column(columns, 4))?;
+    for _ in 0..count {
+        push_lines(&mut script, column(columns, 5))?;
     }
-    Ok(text)
+    Ok(script)
+}
+
+// Whether the script of a row is answered so.
+fn is_limit(alloc: Global, row: &str) -> Result<bool, AllocError> {
+    let columns: Vec<&str> = row.split('|').collect(alloc)?;
+    let count = match columns.get(2) {
+        Some(digits) => digits.parse::<usize>(),
+        None => Ok(0),
+    };
+    let Ok(count) = count else {
+        return Ok(false);
+    };
+    let text = format!(in alloc; "{}\n", column(&columns, 0))?;
+    is_answered(alloc, &repeated(alloc, &columns, count)?, text.as_bytes())
 }
 
 // The place of the first row that is not answered so.
 fn first_wrong_limit(alloc: Global) -> Result<Option<usize>, AllocError> {
-    for (place, row) in LIMITS.iter().enumerate() {
-        if run(alloc, &["check"], &repeated(alloc, row)?)?
-            .text
-            .as_slice()
-            != row.5
-        {
+    for (place, row) in LIMITS.split('\n').enumerate() {
+        if !is_limit(alloc, row)? {
             return Ok(Some(place));
         }
     }

@@ -1,5 +1,5 @@
 use pooma_io::{Sink, Source, SureSink, SureSource};
-use pooma_top::{First, Status, top_one};
+use pooma_top::{First, Picker, Status, top_one};
 use std::alloc::{AllocError, Global};
 
 /// How a run ended, and what it wrote.
@@ -20,13 +20,32 @@ pub fn words_of(alloc: Global, words: &[&str]) -> Result<Vec<String>, AllocError
 
 /// Runs with these words and this input, and with a sink that has room enough.
 pub fn run(alloc: Global, words: &[&str], input: &[u8]) -> Result<Ended, AllocError> {
+    run_picking(alloc, words, input, &mut First)
+}
+
+/// The same, where this picker chooses what is done next.
+pub fn run_picking<P: Picker>(
+    alloc: Global,
+    words: &[&str],
+    input: &[u8],
+    picker: &mut P,
+) -> Result<Ended, AllocError> {
+    let words = words_of(alloc, words)?;
     let mut source = SureSource::new(Vec::from_slice(alloc, input)?);
     let mut sink = SureSink::new(alloc, 65_536)?;
-    let status = run_between(alloc, words, &mut source, &mut sink)?;
+    let status = top_one(alloc, &words, &mut source, &mut sink, picker);
     Ok(Ended {
         status,
         text: Vec::from_slice(alloc, sink.held())?,
     })
+}
+
+/// Appends some lines, of which semicolons are the ends.
+pub fn push_lines(text: &mut Vec<u8>, lines: &str) -> Result<(), AllocError> {
+    for byte in lines.bytes() {
+        text.push(if byte == b';' { b'\n' } else { byte })?;
+    }
+    Ok(())
 }
 
 /// Runs with these words between a source and a sink.
