@@ -4,6 +4,12 @@
 #[cfg(test)]
 mod answers;
 #[cfg(test)]
+mod drawn;
+#[cfg(test)]
+mod drawn_done;
+#[cfg(test)]
+mod drawn_stopped;
+#[cfg(test)]
 mod ends;
 #[cfg(test)]
 mod io;
@@ -11,6 +17,8 @@ mod io;
 mod maker;
 #[cfg(test)]
 mod parse;
+#[cfg(test)]
+mod picker;
 #[cfg(test)]
 mod refusals;
 #[cfg(test)]

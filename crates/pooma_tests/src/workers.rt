@@ -1,6 +1,6 @@
 //! Scripts that several workers run: what they write is what one worker writes.
 use crate::answers::{FAULTED, PRINTED};
-use crate::run::{Ended, words_of};
+use crate::run::{Ended, run, words_of};
 use pooma_io::{SureSink, SureSource};
 use pooma_top::{Gate, NoGate, Status, top};
 use std::alloc::{AllocError, Global};
@@ -171,4 +171,26 @@ fn meet<R: Threads + Wait + Sync>(
 #[test]
 fn the_works_of_two_workers_meet(rt: HostRuntime) {
     assert!(rt; meet(&rt, rt.alloc()) == Ok((0, Status::Done, 0)));
+}
+
+// Two statements of fifty iterates each, fifty times. In turn k the cell i of A is k * i, and 1 + 2 + .. + 50 = 1275, so the cell i
+// of B ends as 1275 * (49 - i). These come to 1275 * 1225, and the last three of them are 2550, 1275 and 0.
+const MANY: &[u8] =
+    b"layout L (0:49) blocks (50)\narray A on L\narray B on L\nrepeat 50\nA += index(0)\nB += A[49:0:-1]\nend\nscalar s = sum(B)\nprint s\nprint B[47:49]\nprint A\n";
+
+const MANY_TEXT: &[u8] = b"1561875\n2550 1275 0\n";
+
+// Whether the bytes of one worker begin with what was counted, and 64 workers write them too, with the status of a run that is done.
+fn many_by_many<R: Threads + Wait + Sync>(rt: &R, alloc: Global) -> Result<[bool; 2], AllocError> {
+    let one = run(alloc, &["run", "1"], MANY)?;
+    let answer = (one.text.as_slice(), Status::Done);
+    Ok([
+        one.text.starts_with(MANY_TEXT),
+        is_answered(rt, alloc, &["run", "64"], MANY, answer)?,
+    ])
+}
+
+#[test]
+fn five_thousand_iterates_by_64_workers(rt: HostRuntime) {
+    assert!(rt; many_by_many(&rt, rt.alloc()) == Ok([true, true]));
 }
