@@ -1,6 +1,5 @@
 -- What a piece sees of what is lent to it.
 use Rattle.std.proofs.Common.{refl, sym, ap, ap₂, ◌∙◌, subst, ⊎_elim, cond, arith, get_or}
-use Rattle.std.proofs.Props.{props}
 use Rattle.std.proofs.lemmas.Bool.{cases_lt}
 use Rattle.std.proofs.lemmas.Int.{ints}
 use Rattle.std.proofs.lemmas.Bool.Decides.{Decides-and, Decides-like, Decides-int_eq, Decides-eqb}
@@ -8,15 +7,15 @@ use Rattle.std.proofs.lemmas.List.Sums.{AllPass-from_list_all, passes_at_first, 
 use Rattle.std.proofs.lemmas.Option.{get_or_from_slice_get, slice_get_within, same_Some, slice_get-get_or, slice_get-map}
 use Rattle.std.specs.Bool.{Decides}
 use Rattle.std.specs.Cmp.Lexicographic.{pointwise_decides}
-use Rattle.std.specs.Int.{w32}
 use Rattle.std.specs.List.{position_or_len}
-use Rattle.std.specs.Prelude.{◌≡◌, ◌≢◌, ◌&&◌, ℕ, ◌-◌, ◌<◌, ◌≤◌, ℤ, pos, ◌+ℤ◌, ◌*ℤ◌, ◌≤ℤ◌, int_le, FitsSigned, Bool, true, false, Option, None, Some, option_map, List, [], ◌∷◌, length, map, slice_get}
+use Rattle.std.specs.Prelude.{◌≡◌, ◌&&◌, ℕ, ◌<◌, ◌≤◌, ℤ, ◌≤ℤ◌, int_le, Bool, true, false, Option, None, Some, option_map, List, [], ◌∷◌, length, map, slice_get}
 use Rattle.pooma_domain.specs.declared.strides.Strided.{Strided}
 use Rattle.pooma_domain.specs.Cells.{Interval, cells_of, IsIn}
 use Rattle.pooma_view.specs.declared.slots.Slot.{Slot}
 use Rattle.pooma_view.specs.declared.slots.Slot.TheVariants.{Fixed, Along}
 use Rattle.pooma_view.specs.Slots.{cell_named}
 use Rattle.pooma_view.specs.Views.{Viewed}
+use Rattle.pooma_view.proofs.Same.{same_strided}
 use Rattle.pooma_field.specs.Numbered.{Numbered}
 use Rattle.pooma_expr.specs.declared.tree.Expr.{Expr}
 use Rattle.pooma_expr.specs.Reads.{AgreeWith}
@@ -31,27 +30,6 @@ use Rattle.pooma_piece.specs.Lent.{fits, has_cells, is_in, is_written, lent_for,
 use Rattle.pooma_piece.specs.Meaning.{area_of}
 use Rattle.pooma_piece.specs.Pieces.{AreReadAlike, AreReads, IsPiece, Pieced, requests_of}
 use Rattle.pooma_piece.specs.Sources.{CanRead, CanSee, HasCellOf, SeesAs, from_source, number_read, read_from, source_of}
-
--- what holds of a strided axis
-abbrev IsStrided : ℤ → ℤ → ℕ → Type 0
-IsStrided first stride count = (stride ≢ pos 0) × (0 < count) × FitsSigned w32 (first +ℤ stride *ℤ pos (count - 1))
-
-abbrev strided : (first stride : ℤ) (count : ℕ) → IsStrided first stride count → Strided
-strided first stride count h = record { first = first; stride = stride; count = count; moves = h.0; some = h.1; fits = h.2 }
-
-only_one : (first stride : ℤ) (count : ℕ) → IsProp (IsStrided first stride count)
-only_one first stride count = hlevel props
-
-same_numbers : (a b c d : ℤ) (n m : ℕ) (h : IsStrided a c n) → a ≡ b → c ≡ d → n ≡ m → (k : IsStrided b d m) → strided a c n h ≡ strided b d m k
-same_numbers a b c d n m h e f g =
-    subst (λ (b' : ℤ). (k : IsStrided b' d m) → strided a c n h ≡ strided b' d m k) e
-    (subst (λ (d' : ℤ). (k : IsStrided a d' m) → strided a c n h ≡ strided a d' m k) f
-    (subst (λ (m' : ℕ). (k : IsStrided a c m') → strided a c n h ≡ strided a c m' k) g
-    (λ k. ap (strided a c n) (only_one a c n h k))))
-
-same_strided : (s t : Strided) → s.first ≡ t.first → s.stride ≡ t.stride → s.count ≡ t.count → s ≡ t
-same_strided s t e f g =
-    same_numbers s.first t.first s.stride t.stride s.count t.count (s.moves, s.some, s.fits) e f g (t.moves, t.some, t.fits)
 
 Decides-same_slot : (a b : Slot) → Decides (same_slot a b) (a ≡ b)
 Decides-same_slot (Fixed x) (Fixed y) = Decides-like _ (λ e. ap Fixed e) (λ e. cc) (Decides-int_eq x y)

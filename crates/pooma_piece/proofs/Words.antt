@@ -4,7 +4,7 @@ use Rattle.std.proofs.lemmas.List.Elements.{All-cons, All-head, All-map, All-nil
 use Rattle.std.proofs.lemmas.Option.{get_or_from_slice_get, slice_get_within}
 use Rattle.std.specs.Int.{w64}
 use Rattle.std.specs.List.{cons_option, filter_map, position_or_len}
-use Rattle.std.specs.Prelude.{◌≡◌, ◌==◌, ◌↔◌, ℕ, zero, ℤ, pos, negsuc, neg_ℤ, ◌*ℤ◌, ◌+ℤ◌, ◌-ℤ◌, FitsSigned, Bool, true, false, Ok, Err, is_err, Option, None, Some, option_map, option_and_then, List, [], ◌∷◌, fold, map, slice_get, slice_index_or, All, Contains, if◌then◌else◌}
+use Rattle.std.specs.Prelude.{◌≡◌, ◌==◌, ℕ, zero, ℤ, pos, negsuc, neg_ℤ, ◌*ℤ◌, ◌+ℤ◌, ◌-ℤ◌, FitsSigned, Bool, true, false, Ok, Err, is_err, Option, None, Some, option_map, option_and_then, List, [], ◌∷◌, fold, map, slice_get, slice_index_or, All, if◌then◌else◌}
 use Rattle.pooma_domain.specs.Cells.{Interval, cells_of, IsAxis, IsIn}
 use Rattle.pooma_view.specs.declared.slots.Slot.{Slot}
 use Rattle.pooma_view.specs.Slots.{cell_named}
