@@ -20,7 +20,8 @@ fn slot(numbers: &Numbers) -> Slot {
 
 // The numbers from 0 to such a last one.
 fn up_to(last: u8) -> Axis
-    ensures { result ≡ record { first = pos 0; last = pos last } }
+    ensures first { result.first ≡ pos 0 }
+    ensures last { result.last ≡ pos last }
 {
     Axis {
         first: 0,

@@ -4,7 +4,7 @@ ghost use Rattle.pooma_expr.specs.Trees.{axes_needed, views_of};
 ghost use Rattle.pooma_piece.specs.Pieces.{HasPositions};
 
 use pooma_domain::{Axis, BoxN, Cell, Strided, boxes_within_boxes};
-use pooma_expr::{Code, Expr, Op, Reduction};
+use pooma_expr::{Code, Expr, Op, Partial, Reduction};
 use pooma_machine::{Mode, Request, Work};
 use pooma_num::FaultKind;
 use pooma_patch::Patch;
@@ -135,7 +135,19 @@ fn fault(outcome: Outcome) -> Option<(Cell, FaultKind)> {
     }
 }
 
-// Sets the cells from a first to a last one to that quotient. The fault, if there is one, and the cells 0 to 4 and 7.
+// The numbers of the cells 0 to 4 and 7.
+fn six(patch: &Patch) -> [Option<i64>; 6] {
+    [
+        number(patch, 0),
+        number(patch, 1),
+        number(patch, 2),
+        number(patch, 3),
+        number(patch, 4),
+        number(patch, 7),
+    ]
+}
+
+// Sets the cells from a first to a last one to that quotient. The fault, if there is one, and six of the cells.
 fn quotients(
     alloc: Global,
     first: i32,
@@ -145,15 +157,7 @@ fn quotients(
     let piece = assigning(alloc, from_to(first, last)?, code)?;
     let mut patch = zeros(alloc)?;
     let fault = fault(run_alone(&piece, &mut patch)?);
-    let numbers = [
-        number(&patch, 0),
-        number(&patch, 1),
-        number(&patch, 2),
-        number(&patch, 3),
-        number(&patch, 4),
-        number(&patch, 7),
-    ];
-    Some((fault, numbers))
+    Some((fault, six(&patch)))
 }
 
 #[test]
@@ -169,18 +173,24 @@ fn positions_without_a_fault_are_all_set(rt: HostRuntime) {
     assert!(rt; quotients(rt.alloc(), 3, 7) == Some((None, numbers)));
 }
 
-// What a reduction of the position's number from 2 to 4 comes to.
-fn reduced(alloc: Global, reduction: Reduction) -> Option<i64> {
-    let code = code_of(alloc, Ok(Expr::Index(0)))?;
-    let piece = reducing(alloc, from_to(2, 4)?, reduction, code)?;
+// What a piece that reads and writes nothing comes to, where it reduces.
+fn partial_of(piece: &Piece) -> Option<Partial> {
     let reads: [Arc<Patch>; 0] = [];
     if !piece.fits(None, &reads) {
         return None;
     }
     let nothing: Option<&mut Patch> = None;
-    let Outcome::Value(partial) = run_piece(&piece, nothing, &reads) else {
-        return None;
-    };
+    match run_piece(piece, nothing, &reads) {
+        Outcome::Value(partial) => Some(partial),
+        _ => None,
+    }
+}
+
+// What a reduction of the position's number from 2 to 4 comes to.
+fn reduced(alloc: Global, reduction: Reduction) -> Option<i64> {
+    let code = code_of(alloc, Ok(Expr::Index(0)))?;
+    let piece = reducing(alloc, from_to(2, 4)?, reduction, code)?;
+    let partial = partial_of(&piece)?;
     if partial.count() == 0 {
         return None;
     }
