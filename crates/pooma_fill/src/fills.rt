@@ -23,8 +23,8 @@ use std::alloc::{AllocError, Global};
 /// Puts the fills of a field at the end of the list: slab by slab, by the patch whose cells they set, and then by the patch from
 /// which the values are taken.
 pub(crate) fn add_fills(
-    list: &mut Vec<Piece>,
     alloc: Global,
+    list: &mut Vec<Piece>,
     number: u32,
     store: &Store,
     shape: &Shape,
@@ -37,15 +37,15 @@ pub(crate) fn add_fills(
 {
     let order = slabs(alloc, shape)?;
     for k in 0..order.len() {
-        add_of_slab(list, alloc, number, store, shape, array, &order[k])?;
+        add_of_slab(alloc, list, number, store, shape, array, &order[k])?;
     }
     Ok(())
 }
 
 // Those of one slab.
 fn add_of_slab(
-    list: &mut Vec<Piece>,
     alloc: Global,
+    list: &mut Vec<Piece>,
     number: u32,
     store: &Store,
     shape: &Shape,
@@ -58,15 +58,15 @@ fn add_of_slab(
     ensures { OnOk result (list.new.items ≡ list.old.items ++ fills_of_slab store.now.layouts number shape.now array slab.now) }
 {
     for target in 0..store.layout(array).patches() {
-        add_of_patch(list, alloc, number, store, shape, array, slab, target)?;
+        add_of_patch(alloc, list, number, store, shape, array, slab, target)?;
     }
     Ok(())
 }
 
 // Those that set cells that this patch owns.
 fn add_of_patch(
-    list: &mut Vec<Piece>,
     alloc: Global,
+    list: &mut Vec<Piece>,
     number: u32,
     store: &Store,
     shape: &Shape,
@@ -100,7 +100,7 @@ fn add_of_patch(
     }
     for source in 0..layout.patches() {
         add_from(
-            list, alloc, number, store, shape, array, slab, target, source, &part,
+            alloc, list, number, store, shape, array, slab, target, source, &part,
         )?;
     }
     Ok(())
@@ -109,8 +109,8 @@ fn add_of_patch(
 // That of the cells of a part whose values are taken from this patch, where there are any. The part are the slab's cells that the
 // target patch owns.
 fn add_from(
-    list: &mut Vec<Piece>,
     alloc: Global,
+    list: &mut Vec<Piece>,
     number: u32,
     store: &Store,
     shape: &Shape,

@@ -87,8 +87,8 @@ impl Stale {
         let mut fills = Vec::new(alloc);
         for k in 0..self.arrays.len() {
             add_needed(
-                &mut fills,
                 alloc,
+                &mut fills,
                 number,
                 action,
                 store,
@@ -144,8 +144,8 @@ fn mark_all(arrays: &mut [Array], action: &Action)
 
 // The array's fills more, where the action needs them.
 fn add_needed(
-    list: &mut Vec<Piece>,
     alloc: Global,
+    list: &mut Vec<Piece>,
     number: u32,
     action: &Action,
     store: &Store,
@@ -157,7 +157,7 @@ fn add_needed(
     ensures { OnOk result (list.new.items ≡ list.old.items ++ fills_if store.now.layouts number action.now k array.now.shape array.now.mark) }
 {
     if is_needed(array, k, action) {
-        add_fills(list, alloc, number, store, &array.shape, k)?;
+        add_fills(alloc, list, number, store, &array.shape, k)?;
     }
     Ok(())
 }

@@ -32,7 +32,11 @@ fn is_asked(requests: &[Request], object: u32) -> bool
 }
 
 // One request more, to read an object, where it is not asked for already.
-fn add_read(requests: &mut SmallVec<Request, 8>, object: u32) -> Result<(), AllocError>
+fn add_read(
+    _alloc: Global,
+    requests: &mut SmallVec<Request, 8>,
+    object: u32,
+) -> Result<(), AllocError>
     ensures { OnOk result (requests.new.items ≡ with_read requests.old.items object) }
 {
     if is_asked(requests.as_slice(), object) {
@@ -71,7 +75,7 @@ pub(crate) fn requests_for(
 {
     let mut requests = begun(alloc, write)?;
     for object in reads {
-        add_read(&mut requests, *object)?;
+        add_read(alloc, &mut requests, *object)?;
     }
     Ok(requests)
 }

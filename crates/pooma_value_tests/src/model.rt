@@ -10,7 +10,7 @@ use pooma_model::{Action, Draft, Program, Statement};
 use std::alloc::{AllocError, Global};
 
 // Puts a statement at the end that is told by its line, and fits every program.
-fn put(draft: &mut Draft, alloc: Global, line: u32) -> Result<(), AllocError>
+fn put(alloc: Global, draft: &mut Draft, line: u32) -> Result<(), AllocError>
     ensures { OnOk result (draft.new ≡ with_statements (record { line = line; action = Action.Block } ∷ []) draft.old) }
 {
     draft.push(
@@ -38,13 +38,13 @@ fn gives(program: Result<Program, AllocError>, lines: &[u32]) -> Result<bool, Al
 fn repeats_in_a_repeat(alloc: Global) -> Result<Program, AllocError> {
     let mut draft = Draft::new(alloc);
     draft.repeat(alloc, 2)?;
-    put(&mut draft, alloc, 1)?;
+    put(alloc, &mut draft, 1)?;
     draft.repeat(alloc, 3)?;
-    put(&mut draft, alloc, 2)?;
+    put(alloc, &mut draft, 2)?;
     draft.end();
-    put(&mut draft, alloc, 3)?;
+    put(alloc, &mut draft, 3)?;
     draft.end();
-    put(&mut draft, alloc, 4)?;
+    put(alloc, &mut draft, 4)?;
     Ok(draft.finish())
 }
 
@@ -67,7 +67,7 @@ fn repeats_around_nothing(alloc: Global, turns: u32) -> Result<Program, AllocErr
     draft.end();
     draft.end();
     draft.end();
-    put(&mut draft, alloc, 9)?;
+    put(alloc, &mut draft, 9)?;
     Ok(draft.finish())
 }
 
