@@ -1,6 +1,7 @@
 #!/usr/bin/env bash
-# How long reading takes where it has most to do: the whole of a script is looked at, and nothing is run. Prints the seconds of each
-# script and what was answered, nothing where memory was short: each may take 2 GB. Fails where one takes a second, or crashes.
+# How long reading takes where it has most to do: the whole of a script is looked at, and nothing is run. Prints a table of Markdown
+# with the seconds of each script and what was answered, nothing where memory was short: each may take 2 GB. Where one takes a
+# second, which is bold, or crashes, this fails.
 set -eu
 cd "$(dirname "$0")/.."
 scripts=$(mktemp -d)
@@ -73,12 +74,18 @@ stencils chained >"$scripts/stencils-chained"
 ./pooma check </dev/null >/dev/null # builds the program where it has to be
 program=crates/pooma/out/pooma
 bad=0
+bench/host.sh
+echo
+echo '| script | bytes | seconds, under 1 | status | answer |'
+echo '| --- | --- | --- | --- | --- |'
 for script in "$scripts"/*; do
     begin=$(date +%s%N)
     status=0
     out=$(ulimit -v 2097152 && "$program" check <"$script") || status=$?
     took=$((($(date +%s%N) - begin) / 1000000))
-    printf '%s: %s bytes in %d.%03d seconds: status %d, %s\n' "${script##*/}" "$(wc -c <"$script")" $((took / 1000)) $((took % 1000)) "$status" "$out"
-    { [ "$took" -lt 1000 ] && [ "$status" -le 6 ]; } || bad=$((bad + 1))
+    seconds=$(printf '%d.%03d' $((took / 1000)) $((took % 1000)))
+    [ "$took" -lt 1000 ] || { seconds="**$seconds**" && bad=$((bad + 1)); }
+    [ "$status" -le 6 ] || { status="**$status**" && bad=$((bad + 1)); }
+    echo "| ${script##*/} | $(wc -c <"$script") | $seconds | $status | $out |"
 done
-[ "$bad" -eq 0 ] || { echo "$bad scripts take a second or more, or end in a crash" >&2; exit 1; }
+[ "$bad" -eq 0 ] || { echo "$bad times a script took a second or more, or ended in a crash" >&2; exit 1; }

@@ -1,25 +1,52 @@
 #!/usr/bin/env bash
-# What the gate costs with nothing kept: for each crate the processor time of its proof, of its tests and runs, and of its
-# must-fail edits, as a table of Markdown. Give crates, or none for all; those below them are measured too.
+# What the gate costs: for each crate the processor time of its proof, of its tests and runs, and of its must-fail edits, as a
+# table of Markdown. Ends with 1 where a crate did not pass.
 #
-# Each crate goes through `rt ci` alone and on one processor, after the crates below it, and the time is read at the lines
-# that it prints between these parts. `rt` keeps what it proved beside the kit. So this works in a copy of the
-# crates, with a kit of its own: links to the real one, and nothing beside them. Nothing in the repository changes.
+# bench/gate.sh [--keep] [CRATE..]: these crates, or all where none is given; those below them are measured too.
+#
+# Each crate goes through `rt ci` alone, after the crates below it, and the time is read at the lines that it prints between
+# these parts. Those that do so at once share the processors, so that each has one at least, and one that is alone has all.
+# JOBS says how many may do so, as in `JOBS=2 bench/gate.sh`; without it as many as there are processors. The fewer, the less
+# memory they want: 20 GB may not do for four of the largest.
+#
+# `rt` keeps what it proved beside the kit. So this works in a copy of the crates, with a kit of its own: links to the real
+# one, and nothing beside them. All is proved from nothing, and nothing stays. With --keep it uses the machine's own kit, and
+# the gate is done by the way: what passes is kept, and `rt ci` over the same files takes it from there, and only runs tests
+# and programs. Where nothing was kept before, the figures are the same. What was kept before is not proved again; the table
+# then says so of a crate, and counts only those of its edits that were tried here.
+#
+# What rt says of a crate that does not pass goes to standard error. Those that stand on it are left out, and the others go on.
 set -u
 cd "$(dirname "$0")/.." || exit 1
+keep=''
+[ "${1:-}" != --keep ] || { keep=yes && shift; }
 kit=$(dirname "$(dirname "$(realpath "$(command -v rt)")")") || exit 1
 work=$(mktemp -d) || exit 1
-trap 'rm -rf "$work"' EXIT
-mkdir "$work/kit" "$work/repo" "$work/state"
-for part in "$kit"/*; do
-    ln -s "$part" "$work/kit/"
-done
-rm "$work/kit/bin"
-cp -al "$kit/bin" "$work/kit/bin" 2>/dev/null || cp -a "$kit/bin" "$work/kit/bin" || exit 1
+declare -A uses running=() held=()
+
+# Ends what still runs, and leaves nothing behind.
+end() {
+    trap - EXIT
+    [ ${#running[@]} -eq 0 ] || { kill "${!running[@]}" && wait; } 2>/dev/null
+    rm -rf "$work"
+}
+trap end EXIT
+trap 'exit 130' INT
+trap 'exit 143' TERM HUP
+
+mkdir "$work/repo" "$work/state" "$work/tmp"
+if [ -z "$keep" ]; then
+    mkdir "$work/kit"
+    for part in "$kit"/*; do
+        ln -s "$part" "$work/kit/"
+    done
+    rm "$work/kit/bin"
+    cp -al "$kit/bin" "$work/kit/bin" 2>/dev/null || cp -a "$kit/bin" "$work/kit/bin" || exit 1
+    kit=$work/kit
+fi
 tar -cf - --exclude='crates/*/out' crates crates.txt HANDLES | tar -xf - -C "$work/repo" || exit 1
 
 # The crates to measure, each after those that it stands on, and what each stands on, by crates.txt.
-declare -A uses
 crates=''
 while read -r name below; do
     uses[$name]=$below
@@ -47,12 +74,13 @@ lines() {
     done | awk '/^#\[(cfg\(test\)|test)\]/ { skip = 1; next } skip { if (/^}/ || /;$/ && !/^ /) skip = 0; next } NF { n++ } END { print n + 0 }'
 }
 
-# measure CRATE PROCESSOR: writes its row to the state.
+# measure CRATE PROCESSORS: writes its row to the state, or what rt said where it does not pass.
 measure() {
     local pid line at=0 before=0 proof=0 tests=0 whole=0 edits=0 count=0
     mkfifo "$work/$1.lines"
-    (cd "$work/repo" && exec taskset -c "$2" "$work/kit/bin/rt" ci "$1") >"$work/$1.lines" 2>&1 &
+    (cd "$work/repo" && TMPDIR=$work/tmp exec taskset -c "$2" "$kit/bin/rt" ci "$1") >"$work/$1.lines" 2>&1 &
     pid=$!
+    trap 'kill "$pid"; exit 1' TERM
     # hundredths of a second of the run and of all that it waited for, since the last part ended
     part() {
         local spent
@@ -63,6 +91,7 @@ measure() {
     while IFS= read -r line; do
         echo "$line" >>"$work/$1.log"
         case $line in
+        "rt: $1 is kept: "*) part; proof=kept ;;
         *' is kept: '*) part ;;
         "rt: $1 proved") part; proof=$at ;;
         "rt: $1: its tests are proved") part; tests=$at ;;
@@ -71,54 +100,68 @@ measure() {
         *' passed, '*) part; tests=$((tests + at)) ;;
         esac
     done <"$work/$1.lines"
-    if ! wait "$pid"; then
-        echo "gate: $1 did not pass; what rt said:" >&2
-        cat "$work/$1.log" >&2
+    if wait "$pid"; then
+        echo "$1 $(lines "$1") $proof $tests $whole $edits $count" >"$work/state/$1.row"
+    else
+        { echo "gate: $1 did not pass; what rt said:" && cat "$work/$1.log"; } >&2
+        return 1
     fi
-    echo "$1 $(lines "$1") $proof $tests $whole $edits $count" >"$work/state/$1.row"
 }
 
-# next: takes the first crate that waits for no other, or fails where none is left.
-next() {
-    local name other left ready
-    while :; do
-        left=
-        for name in $crates; do
-            [ -e "$work/state/$name.taken" ] && continue
-            left=yes ready=yes
-            for other in ${uses[$name]}; do
-                [ -e "$work/state/$other.row" ] || ready=
-            done
-            if [ -n "$ready" ] && mkdir "$work/state/$name.taken" 2>/dev/null; then
-                echo "$name"
-                return 0
-            fi
+# The crates that are not begun, and wait for no other.
+ready() {
+    local name other
+    for name in $crates; do
+        [ ! -e "$work/state/$name.begun" ] || continue
+        for other in ${uses[$name]}; do
+            [ -e "$work/state/$other.row" ] || continue 2
         done
-        [ -n "$left" ] || return 1
-        sleep 1
+        echo "$name"
     done
 }
 
-for processor in $(taskset -cp $$ | sed 's/.*: //' | tr ',' '\n' | awk -F- '{ for (i = $1; i <= ($2 == "" ? $1 : $2); i++) print i }'); do
-    while crate=$(next); do
-        measure "$crate" "$processor"
-        echo "gate: measured $crate" >&2
-    done &
+# begin CRATE AMONG: begins with a crate on its share of the free processors, where so many crates may begin now.
+begin() {
+    local count=$((${#free[@]} / $2))
+    local share=("${free[@]:0:count > 0 ? count : 1}")
+    free=("${free[@]:${#share[@]}}")
+    touch "$work/state/$1.begun"
+    measure "$1" "$(IFS=, && echo "${share[*]}")" &
+    running[$!]=$1 held[$!]=${share[*]}
+}
+
+mapfile -t free < <(taskset -cp $$ | sed 's/.*: //' | tr ',' '\n' | awk -F- '{ for (i = $1; i <= ($2 == "" ? $1 : $2); i++) print i }')
+most=${JOBS:-${#free[@]}}
+while :; do
+    mapfile -t waiting < <(ready)
+    room=$((most - ${#running[@]}))
+    if [ ${#waiting[@]} -gt 0 ] && [ $room -gt 0 ] && [ ${#free[@]} -gt 0 ]; then
+        begin "${waiting[0]}" $((${#waiting[@]} < room ? ${#waiting[@]} : room))
+    elif [ ${#running[@]} -gt 0 ]; then
+        wait -n -p ended "${!running[@]}" && echo "gate: measured ${running[$ended]}" >&2
+        read -ra share <<<"${held[$ended]}"
+        free+=("${share[@]}")
+        unset "running[$ended]" "held[$ended]"
+    else
+        break
+    fi
 done
-wait
 
 echo '| crate | lines | proof | tests and runs | first edit | each further edit | edits | in all | minutes for 1,000 lines |'
 echo '|---|---|---|---|---|---|---|---|---|'
+lost=''
 for crate in $crates; do
-    cat "$work/state/$crate.row"
-done | awk '
+    cat "$work/state/$crate.row" 2>/dev/null || lost="$lost $crate"
+done > >(awk '
     function row(name, lines, proof, tests, first, more, edits, all) {
-        printf "| %s | %d | %.0f | %.0f | %s | %s | %d | %.0f | %s |\n", name, lines, proof, tests, first, more, edits, all, lines ? sprintf("%.1f", all / 60 / lines * 1000) : ""
+        printf "| %s | %d | %s | %.0f | %s | %s | %d | %.0f | %s |\n", name, lines, proof, tests, first, more, edits, all, lines ? sprintf("%.1f", all / 60 / lines * 1000) : ""
     }
     {
         proof = $3 / 100; tests = $4 / 100; edits = ($5 + $6) / 100
         each = $7 ? $6 / 100 / $7 : 0
-        row("`" $1 "`", $2, proof, tests, $7 ? sprintf("%.0f", $5 / 100 + each) : "", $7 > 1 ? sprintf("%.0f", each) : "", $7, proof + tests + edits)
+        row("`" $1 "`", $2, $3 == "kept" ? $3 : sprintf("%.0f", proof), tests, $7 ? sprintf("%.0f", $5 / 100 + each) : "", $7 > 1 ? sprintf("%.0f", each) : "", $7, proof + tests + edits)
         l += $2; p += proof; t += tests; n += $7; e += edits
     }
-    END { row("whole", l, p, t, "", "", n, p + t + e) }'
+    END { row("whole", l, sprintf("%.0f", p), t, "", "", n, p + t + e) }')
+wait $!
+[ -z "$lost" ] || { echo "gate: not measured:$lost" >&2 && exit 1; }

@@ -1,7 +1,8 @@
 #!/usr/bin/env bash
-# What scripts of several kinds cost on one worker: seconds and the most memory of each run, and beside them the seconds of
-# the same statements in NumPy and how many times those the program takes, where python3-numpy is installed. Fails where a
-# script costs more than its bar, or where it prints another sum than it has to.
+# What scripts of several kinds cost with 1, 2 and 4 workers, as a table of Markdown: seconds and the most memory of each run,
+# how many times the seconds of one worker that is, and how many times those of the same statements in NumPy, where
+# python3-numpy is installed; NumPy's seconds are without its start. A figure past its bar is bold. Then this fails, and where a
+# script prints another sum than it has to. The bars of four workers hold where there are four processors.
 #
 # bench/run.sh [PART]: with a number here each repeat has only that part of its turns, for a short try.
 set -eu
@@ -10,7 +11,7 @@ part=${1:-1}
 steps=$((20 / part > 0 ? 20 / part : 1)) turns=$((200000 / part)) windows=$((100000 / part))
 kept=$(mktemp -d)
 trap 'rm -rf "$kept"' EXIT
-python='' failed=0
+python='' failed=0 processors=$(nproc)
 for one in python3 /usr/bin/python3; do
     if "$one" -c 'import numpy' 2>/dev/null; then python=$one && break; fi
 done
@@ -22,39 +23,59 @@ cost() {
     output=$(cat "$kept/output")
 }
 
-# run NAME: the script of this name, and its NumPy program.
+# run NAME TITLE: the script of this name, a row for each number of workers, and its NumPy program.
 run() {
-    cost ./pooma run 1 < <("$1")
-    printf '%s: %s s, %s kB' "$title" "$seconds" "$memory"
-    [ -z "$python" ] || beside "$1"
-    echo
+    local numpy=''
+    title=$2
+    for workers in 1 2 4; do
+        cost ./pooma run "$workers" < <("$1")
+        if [ "$workers" -eq 1 ]; then
+            alone=$seconds printed=$output
+            [ -z "$python" ] || numpy=$(beside "$1")
+            [ -z "$python" ] || [ "$output" = "$(cat "$kept/sum")" ] || fail "prints $output, and NumPy $(cat "$kept/sum")"
+        else
+            [ "$output" = "$printed" ] || fail "prints $output with $workers workers, and $printed with one"
+        fi
+        bars=''
+        "bars_$1"
+        row "$title" "$workers" "$seconds" "$(quotient "$seconds" "$alone")" "$([ -z "$numpy" ] || quotient "$seconds" "$numpy")" "$memory" "$bars"
+    done
 }
 
-# The seconds that NumPy itself takes, without its start.
+# The seconds that NumPy itself takes, without its start; the sum goes into a file.
 beside() {
-    local sum
-    sum=$("$python" - 2>"$kept/numpy" < <(
+    "$python" - 2>"$kept/numpy" >"$kept/sum" < <(
         echo 'import sys, time, numpy as np'
         echo 'begin = time.perf_counter()'
         "numpy_$1"
         echo 'print(f"{time.perf_counter() - begin:.3f}", file=sys.stderr)'
-    ))
-    printf '; NumPy %s s, ratio %s' "$(cat "$kept/numpy")" "$(quotient "$seconds" "$(cat "$kept/numpy")")"
-    [ "$output" = "$sum" ] || fail "prints $output, and NumPy $sum"
+    )
+    cat "$kept/numpy"
 }
+
+row() { printf '| %s ' "$@" && echo '|'; }
 
 fail() {
     echo "$title: $1" >&2
     failed=1
 }
 
-# within VALUE BAR UNIT: prints the value, and notes where it is past the bar.
+# within VALUE BAR UNIT: puts the value into the row, and notes where it is past the bar.
 within() {
-    echo "    $1 $3; the bar is $2"
-    awk -v value="$1" -v bar="$2" 'BEGIN { exit value > bar }' || fail "$1 $3, and may take $2"
+    local told="$1 $3, of at most $2"
+    if awk -v value="$1" -v bar="$2" 'BEGIN { exit value <= bar }'; then
+        fail "$1 $3, and may take $2"
+        told="**$told**"
+    fi
+    bars=${bars:+$bars; }$told
 }
 
 quotient() { awk -v a="$1" -v b="$2" 'BEGIN { if (b > 0) printf "%.2f", a / b; else printf "none" }'; }
+
+# among_four BAR: the bar on the seconds of four workers, as so many times those of one.
+among_four() {
+    [ "$workers" -ne 4 ] || [ "$processors" -lt 4 ] || within "$(quotient "$seconds" "$alone")" "$1" 'times one worker'
+}
 
 # A step of heat has two statements, of which one has five reads and the other one.
 heat() {
@@ -171,38 +192,60 @@ print(a.sum())
 END
 }
 
+bars_heat() {
+    if [ "$workers" -eq 1 ]; then
+        within "$seconds" 60 seconds
+        # as another program found it
+        [ $steps -ne 20 ] || [ "$output" = 2371025923 ] || fail "the sum is $output"
+        # two arrays with a guard layer around
+        within "$(quotient $((memory - own)) $((2 * 1026 * 1026 * 8 / 1024)))" 2 'times the memory of the cells'
+    fi
+    among_four 0.4
+}
+
+bars_square() {
+    if [ "$workers" -eq 1 ]; then
+        within "$(quotient "${seconds}e6" $((turns * 16)))" $((side == 64 ? 10 : 4)) 'microseconds an iterate'
+    fi
+    among_four 1.3
+}
+
+bars_parts() {
+    if [ "$workers" -eq 1 ]; then
+        within "$(quotient "${seconds}e6" 60000)" 6 'microseconds an iterate'
+        bars="$bars; $(quotient $(((memory - own) * 1024)) 60000) bytes an iterate"
+    fi
+}
+
+bars_scalars() {
+    if [ "$workers" -eq 1 ] && [ $arrays -gt 1 ]; then
+        within "$(quotient "$(awk -v a="$seconds" -v b="$few" 'BEGIN { print (a - b) * 1e9 }')" $((windows * 4095)))" 30 'nanoseconds an object'
+    fi
+}
+
+bars_greatest() {
+    if [ "$workers" -eq 1 ]; then
+        within "$(quotient $((memory - own)) $((2048 * 2048 * 8 / 1024)))" 2 'times the memory of the cells'
+    fi
+}
+
 cost ./pooma run 1 </dev/null # builds the program where it has to be
 cost ./pooma run 1 </dev/null
 own=$memory
-echo "an empty script: $seconds s, $memory kB"
 
-title="$steps steps of heat on 1024 x 1024 cells in 16 blocks"
-run heat
-within "$seconds" 60 seconds
-# as another program found it
-[ $steps -ne 20 ] || [ "$output" = 2371025923 ] || fail "the sum is $output"
-# two arrays with a guard layer around
-within "$(quotient $((memory - own)) $((2 * 1026 * 1026 * 8 / 1024)))" 2 'times the memory of the cells'
-
+bench/host.sh
+echo
+row script workers seconds 'times one worker' 'times NumPy' 'memory, kB' bars
+row --- --- --- --- --- --- ---
+row 'an empty script' 1 "$seconds" '' '' "$memory" ''
+run heat "$steps steps of heat on 1024 x 1024 cells in 16 blocks"
 for side in 64 16; do
-    title="$turns statements on $side x $side cells in 16 blocks"
-    run square
-    within "$(quotient "${seconds}e6" $((turns * 16)))" $((side == 64 ? 10 : 4)) 'microseconds an iterate'
+    run square "$turns statements on $side x $side cells in 16 blocks"
 done
-
-title='a reduction of 60,000 parts'
-run parts
-within "$(quotient "${seconds}e6" 60000)" 6 'microseconds an iterate'
-echo "    $(quotient $(((memory - own) * 1024)) 60000) bytes an iterate"
-
-patches=1 arrays=1 title="$windows scalars beside one array of one patch"
-run scalars
-few=$seconds
-patches=256 arrays=16 title="$windows scalars beside 16 arrays of 256 patches"
-run scalars
-within "$(quotient "$(awk -v a="$seconds" -v b="$few" 'BEGIN { print (a - b) * 1e9 }')" $((windows * 4095)))" 30 'nanoseconds an object'
-
-title='the greatest array'
-run greatest
-within "$(quotient $((memory - own)) $((2048 * 2048 * 8 / 1024)))" 2 'times the memory of the cells'
+run parts 'a reduction of 60,000 parts'
+patches=1 arrays=1
+run scalars "$windows scalars beside one array of one patch"
+few=$alone patches=256 arrays=16
+run scalars "$windows scalars beside 16 arrays of 256 patches"
+run greatest 'the greatest array'
 exit $failed
