@@ -1,0 +1,4 @@
+pub mod Arrays
+pub mod Boxes
+pub mod Rows
+pub mod Statements
