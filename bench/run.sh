@@ -197,10 +197,10 @@ bars_heat() {
         within "$seconds" 60 seconds
         # as another program found it
         [ $steps -ne 20 ] || [ "$output" = 2371025923 ] || fail "the sum is $output"
-        # two arrays with a guard layer around
-        within "$(quotient $((memory - own)) $((2 * 1026 * 1026 * 8 / 1024)))" 2 'times the memory of the cells'
     fi
     among_four 0.4
+    # two arrays with a guard layer around
+    within "$(quotient $((memory - own)) $((2 * 1026 * 1026 * 8 / 1024)))" 2 'times the memory of the cells'
 }
 
 bars_square() {
@@ -224,9 +224,7 @@ bars_scalars() {
 }
 
 bars_greatest() {
-    if [ "$workers" -eq 1 ]; then
-        within "$(quotient $((memory - own)) $((2048 * 2048 * 8 / 1024)))" 2 'times the memory of the cells'
-    fi
+    within "$(quotient $((memory - own)) $((2048 * 2048 * 8 / 1024)))" 2 'times the memory of the cells'
 }
 
 cost ./pooma run 1 </dev/null # builds the program where it has to be

@@ -13,9 +13,11 @@ use std::io;
 use std::sync::Arc;
 use std::time::{Clock, Duration, Instant};
 
-const SUM: &[u8] = b"layout L (0:255,0:255) blocks (1,1)\narray A on L\narray B on L\narray C on L\nC = A + B * 3\n";
+const SUM: &[u8] =
+    b"layout L (0:255,0:255) blocks (1,1)\narray A on L\narray B on L\narray C on L\nC = A + B * 3\n";
 
-const MEAN: &[u8] = b"layout L (0:255,0:255) blocks (1,1)\nlayout M (0:257,0:257) blocks (1,1)\narray A on M\narray C on L\nC = (A[0:255,1:256] + A[1:256,0:255] + A[1:256,1:256] + A[2:257,1:256] + A[1:256,2:257]) / 5\n";
+const MEAN: &[u8] =
+    b"layout L (0:255,0:255) blocks (1,1)\nlayout M (0:257,0:257) blocks (1,1)\narray A on M\narray C on L\nC = (A[0:255,1:256] + A[1:256,0:255] + A[1:256,1:256] + A[2:257,1:256] + A[1:256,2:257]) / 5\n";
 
 // How many cells are on a side of what the statements set, and how many are set.
 const SIDE: usize = 256;
@@ -109,13 +111,9 @@ fn mean(x: [i64; 5]) -> Result<i64, FaultKind> {
 }
 
 // The five-point mean at each cell of a row, up to the first fault, over the rows around it.
-fn mean_of_row(
-    low: &[i64],
-    row: &[i64],
-    high: &[i64],
-    c: &mut [i64],
-) -> Result<(), FaultKind> {
-    for k in 0..c.len().min(low.len()).min(high.len()).min(row.len().saturating_sub(2)) {
+fn mean_of_row(low: &[i64], row: &[i64], high: &[i64], c: &mut [i64]) -> Result<(), FaultKind> {
+    let outer = low.len().min(high.len());
+    for k in 0..c.len().min(outer).min(row.len().saturating_sub(2)) {
         c[k] = mean([low[k], row[k], row[k + 1], row[k + 2], high[k]])?;
     }
     Ok(())

@@ -48,7 +48,10 @@ impl Sample {
         } else {
             "something else"
         };
-        println!(rt; "{name}: {} cells, sum {}, by hand {by_hand}", self.cells, self.sum)?;
+        println!(rt;
+            "{name}: {} cells, sum {}, by hand {by_hand}",
+            self.cells, self.sum
+        )?;
         eprintln!(rt; "{name}: {self}")
     }
 }

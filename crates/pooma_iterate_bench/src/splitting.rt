@@ -11,7 +11,8 @@ use std::io;
 use std::time::{Clock, Duration, Instant};
 
 // Each of the 64 x 64 positions is a part of its own: five views of it, on 16 x 16 patches of four and five cells on a side.
-const SCRIPT: &[u8] = b"layout L (0:67,0:67) blocks (16,16)\narray A on L\nscalar s = sum(A[0:63,0:63] + A[1:64,1:64] + A[2:65,2:65] + A[3:66,3:66] + A[4:67,4:67])\n";
+const SCRIPT: &[u8] =
+    b"layout L (0:67,0:67) blocks (16,16)\narray A on L\nscalar s = sum(A[0:63,0:63] + A[1:64,1:64] + A[2:65,2:65] + A[3:66,3:66] + A[4:67,4:67])\n";
 
 // How often it is timed; the least time counts.
 const TURNS: usize = 7;

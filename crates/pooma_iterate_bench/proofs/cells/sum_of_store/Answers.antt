@@ -8,6 +8,6 @@ pub sum_of_store_row-sum-requires-clause-there : goal.sum_of_store_row-sum-requi
 sum_of_store_row-sum-requires-clause-there c x low high = record {
   known = omega (arith, ints, c.arrays.ensures, c.if-arrays-eq0.false);
   inside =
-    row_of c.total-total.result _ _ _ _ (omega (arith, ints, c.dims.ensures.value, c.if-dims-ne2.false)) c.axis-along.ensures c.axis-across.ensures
-    (sym (c.total-total.ensures ∙ ap total_of c.layout.ensures)) (omega (arith, ints)) (omega (arith, ints)) x low high;
+      row_of c.total-total.result _ _ _ _ (omega (arith, ints, c.dims.ensures.value, c.if-dims-ne2.false)) c.axis-along.ensures c.axis-across.ensures
+      (sym (c.total-total.ensures ∙ ap total_of c.layout.ensures)) (omega (arith, ints)) (omega (arith, ints)) x low high;
 }
