@@ -3,11 +3,14 @@ use Rattle.std.specs.Prelude.{◌≡◌, ℕ, ◌+◌, ◌*◌, ◌<◌, ◌≤�
 use Rattle.std.specs.Map.{lookup}
 use Rattle.std.specs.Str.{bytes_eq}
 use Rattle.pooma_layout.specs.Blocks.{product}
+use Rattle.pooma_parse.specs.declared.form.RawLine.{RawLine}
+use Rattle.pooma_parse.specs.declared.form.RawLine.TheVariants as line
 use Rattle.pooma_model.specs.Order.{Frame}
 use Rattle.pooma_script.specs.declared.count.TheConstants.{CAP}
 use Rattle.pooma_script.specs.declared.names.Named.{Named}
 use Rattle.pooma_script.specs.declared.names.Named.TheVariants as named
 use Rattle.pooma_script.specs.declared.cause.LimitName.TheVariants as limit
+use Rattle.pooma_script.specs.After.{with_declaration}
 use Rattle.pooma_script.specs.Known.{Known, declared_in}
 use Rattle.pooma_script.specs.Limits.{most}
 use Rattle.pooma_check.specs.declared.known.Known.{Known as Kept}
@@ -56,3 +59,11 @@ pub record IsKnown (known : Known) : Type 0 where
 pub record IsKept (kept : Kept) : Type 0 where
   pub known : IsKnown (known_of kept)
   pub turns : kept.turns.items ≡ turns_kept kept.draft.open_repeats
+
+-- what the line declares, where it is a layout or an array
+abbrev pub with_array_of : Known → List ℕ → RawLine → Known
+with_array_of known text (line.Layout layout domain cutting internal external) = with_declaration known text (line.Layout layout domain cutting internal external)
+with_array_of known text (line.Brick brick domain) = with_declaration known text (line.Brick brick domain)
+with_array_of known text (line.Array array on) = with_declaration known text (line.Array array on)
+with_array_of known text (line.Field field on faces) = with_declaration known text (line.Field field on faces)
+with_array_of known text other = known

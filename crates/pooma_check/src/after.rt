@@ -5,7 +5,7 @@ ghost use Rattle.pooma_model.specs.Fit.{IsFit};
 ghost use Rattle.pooma_script.specs.After.{after, with_action, with_declaration, with_scalar};
 ghost use Rattle.pooma_script.specs.Known.{named_at, turns_in};
 ghost use Rattle.pooma_script.specs.Statements.{action_of, values_printed};
-ghost use Rattle.pooma_check.specs.Kept.{IsKept, known_of, turns_kept};
+ghost use Rattle.pooma_check.specs.Kept.{IsKept, known_of, turns_kept, with_array_of};
 ghost use Rattle.pooma_check.specs.Sound.{IsLimited, IsSound};
 ghost use Rattle.pooma_check.specs.Verdicts.{IsPrintable};
 
@@ -61,6 +61,52 @@ fn declare<'a>(
     ensures turns { OnOk result (known.new.turns.items ≡ turns_kept known.new.draft.open_repeats) }
 {
     match form {
+        RawLine::Layout { .. }
+        | RawLine::Brick { .. }
+        | RawLine::Array { .. }
+        | RawLine::Field { .. } => declare_array(alloc, known, text, form),
+        RawLine::Stencil {
+            name,
+            lower,
+            upper,
+            body,
+        } => take_stencil(
+            alloc,
+            known,
+            part(text, *name),
+            lower.as_slice(),
+            upper.as_slice(),
+            body,
+        ),
+        RawLine::Scalar { name, .. } | RawLine::Reduce { name, .. } => {
+            take_scalar(alloc, known, text, *name)
+        }
+        RawLine::Repeat { turns } => begin_repeat(alloc, known, *turns),
+        RawLine::End => {
+            end_repeat(known);
+            Ok(())
+        }
+        RawLine::Assign { .. }
+        | RawLine::PrintView { .. }
+        | RawLine::PrintName { .. }
+        | RawLine::Block => Ok(()),
+    }
+}
+
+// What the line declares, if it is a layout or an array.
+fn declare_array<'a>(
+    alloc: Global,
+    known: &mut Known<'a>,
+    text: &'a [u8],
+    form: &RawLine,
+) -> Result<(), AllocError>
+    requires kept { IsKept known.old }
+    requires sound { IsSound (known_of known.old) text.now form.now }
+    requires limits { (number : ℕ) × IsLimited number (known_of known.old) text.now form.now }
+    ensures known { OnOk result (known_of known.new ≡ with_array_of (known_of known.old) text.now form.now) }
+    ensures turns { OnOk result (known.new.turns.items ≡ turns_kept known.new.draft.open_repeats) }
+{
+    match form {
         RawLine::Layout {
             name,
             domain,
@@ -94,36 +140,17 @@ fn declare<'a>(
             *layout,
             faces.as_slice(),
         ),
-        RawLine::Stencil {
-            name,
-            lower,
-            upper,
-            body,
-        } => take_stencil(
-            alloc,
-            known,
-            part(text, *name),
-            lower.as_slice(),
-            upper.as_slice(),
-            body,
-        ),
-        RawLine::Scalar { name, .. } | RawLine::Reduce { name, .. } => {
-            take_scalar(known, text, *name)
-        }
-        RawLine::Repeat { turns } => begin_repeat(alloc, known, *turns),
-        RawLine::End => {
-            end_repeat(known);
-            Ok(())
-        }
-        RawLine::Assign { .. }
-        | RawLine::PrintView { .. }
-        | RawLine::PrintName { .. }
-        | RawLine::Block => Ok(()),
+        _ => Ok(()),
     }
 }
 
 // Declares a scalar, where the name is new.
-fn take_scalar<'a>(known: &mut Known<'a>, text: &'a [u8], name: Span) -> Result<(), AllocError>
+fn take_scalar<'a>(
+    alloc: Global,
+    known: &mut Known<'a>,
+    text: &'a [u8],
+    name: Span,
+) -> Result<(), AllocError>
     requires few { known.old.draft.declared.scalars < 2 ^ 32 - 1 }
     ensures known { OnOk result (known_of known.new
         ≡ with_scalar (text_at text.now name) (named_at (known_of known.old) text.now name) (known_of known.old)) }
@@ -134,7 +161,9 @@ fn take_scalar<'a>(known: &mut Known<'a>, text: &'a [u8], name: Span) -> Result<
         return Ok(());
     }
     let number = known.draft.scalar();
-    known.names.declare(part(text, name), Named::Scalar(number))
+    known
+        .names
+        .declare(alloc, part(text, name), Named::Scalar(number))
 }
 
 // How many values the action prints.

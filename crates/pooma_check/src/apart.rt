@@ -13,8 +13,8 @@ use crate::cells::view_read;
 use crate::known::Known;
 use crate::task::Task;
 use pooma_domain::BoxN;
+use pooma_script::conjunction::both;
 use pooma_script::reading::Reading;
-use pooma_script::tests::both;
 use pooma_view::View;
 
 /// The positions of what is read.

@@ -10,8 +10,8 @@ use crate::known::Known;
 use crate::task::Task;
 use pooma_domain::BoxN;
 use pooma_field::Shape;
+use pooma_script::conjunction::both;
 use pooma_script::reading::{Reading, all_go_along, axes_read, fits_stencil};
-use pooma_script::tests::both;
 
 /// The shape of an array; of one that is not there, a shape without axes.
 fn shape_at(known: &Known<'_>, array: u32) -> Shape

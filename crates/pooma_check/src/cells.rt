@@ -17,9 +17,9 @@ use crate::lookup::reading_at;
 use pooma_domain::{BoxN, order_of_cells};
 use pooma_field::Shape;
 use pooma_parse::RawView;
+use pooma_script::conjunction::both;
 use pooma_script::reading::Reading;
 use pooma_script::slot::view_in;
-use pooma_script::tests::both;
 use pooma_view::View;
 
 /// The shape of an array that is there.

@@ -55,7 +55,7 @@ pub fn take_layout<'a>(
     ensures turns { OnOk result (known.new.turns.items ≡ known.old.turns.items) }
 {
     let layout = said(alloc, domain, cutting, internal, external)?;
-    note_layout(known, name, layout)
+    note_layout(alloc, known, name, layout)
 }
 
 /// Declares the brick that a line says. Its only error is want of memory.
@@ -174,5 +174,5 @@ pub fn take_stencil<'a>(
     let stencil = Stencil::new(cell_of(lower), cell_of(upper), made);
     let number = known.stencils.len();
     known.stencils.push(stencil)?;
-    known.names.declare(name, Named::Stencil(number))
+    known.names.declare(alloc, name, Named::Stencil(number))
 }

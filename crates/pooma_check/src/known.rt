@@ -56,6 +56,7 @@ pub fn nothing<'a>(alloc: Global) -> Known<'a>
 
 /// Notes a layout by its name. Its only error is want of memory.
 pub fn note_layout<'a>(
+    alloc: Global,
     known: &mut Known<'a>,
     name: &'a [u8],
     layout: Layout,
@@ -66,7 +67,7 @@ pub fn note_layout<'a>(
 {
     let number = known.layouts.len();
     known.layouts.push(layout)?;
-    known.names.declare(name, Named::Layout(number))
+    known.names.declare(alloc, name, Named::Layout(number))
 }
 
 /// Declares an array by its name. Its only error is want of memory.
@@ -88,5 +89,5 @@ pub fn note_array<'a>(
 {
     known.allocated += layout.allocated_cells();
     let number = known.draft.declare(alloc, shape, layout)?;
-    known.names.declare(name, Named::Array(number))
+    known.names.declare(alloc, name, Named::Array(number))
 }

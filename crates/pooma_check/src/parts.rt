@@ -65,7 +65,7 @@ fn cut_into_few(
 }
 
 /// Adds the views of an expression, in the order of the text. Its only error is want of memory.
-fn add_views(views: &mut Vec<View>, expr: &Expr) -> Result<(), AllocError>
+fn add_views(alloc: Global, views: &mut Vec<View>, expr: &Expr) -> Result<(), AllocError>
     ensures { OnOk result (views.new.items ≡ views.old.items ++ views_of expr.now) }
 {
     match expr {
@@ -74,15 +74,15 @@ fn add_views(views: &mut Vec<View>, expr: &Expr) -> Result<(), AllocError>
             views.push(*view)?;
             Ok(())
         }
-        Expr::Neg(a) | Expr::Abs(a) => add_views(views, a.get()),
+        Expr::Neg(a) | Expr::Abs(a) => add_views(alloc, views, a.get()),
         Expr::Bin(_, a, b) => {
-            add_views(views, a.get())?;
-            add_views(views, b.get())
+            add_views(alloc, views, a.get())?;
+            add_views(alloc, views, b.get())
         }
         Expr::Where(c, a, b) => {
-            add_views(views, c.get())?;
-            add_views(views, a.get())?;
-            add_views(views, b.get())
+            add_views(alloc, views, c.get())?;
+            add_views(alloc, views, a.get())?;
+            add_views(alloc, views, b.get())
         }
     }
 }
@@ -101,7 +101,7 @@ fn assigns_few(
 {
     let mut views = Vec::new(alloc);
     views.push(*target)?;
-    add_views(&mut views, value)?;
+    add_views(alloc, &mut views, value)?;
     cut_into_few(alloc, known, &views, &target.positions())
 }
 
@@ -117,7 +117,7 @@ fn reduces_few(
         ↔ (length (parts_of (declared_in (known_of known.now)) (views_of value.now) positions.now) ≤ 65536)) }
 {
     let mut views = Vec::new(alloc);
-    add_views(&mut views, value)?;
+    add_views(alloc, &mut views, value)?;
     cut_into_few(alloc, known, &views, positions)
 }
 

@@ -11,12 +11,12 @@ use crate::cells::{all_are_readable, first_is_writable};
 use crate::known::Known;
 use crate::task::Task;
 use pooma_parse::RawLine;
+use pooma_script::conjunction::both;
 use pooma_script::declaration::{are_axes, layout_has_axes, layout_has_numbers, stencil_has_axes};
 use pooma_script::layout::{are_ordered, cuts_inside};
 use pooma_script::names::Named;
 use pooma_script::places::all_have_positions;
 use pooma_script::stencil::are_within;
-use pooma_script::tests::both;
 use pooma_view::cells_apart;
 
 /// How many axes a layout has; what is none has none.

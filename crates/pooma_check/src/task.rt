@@ -73,6 +73,7 @@ impl<'a> Task<'a> {
 
 /// Puts what an expression reads at the end of a list, in the order of the text. Its only error is want of memory.
 fn gather_in<'a>(
+    alloc: Global,
     known: &'a Known<'_>,
     text: &[u8],
     expr: &'a RawExpr,
@@ -84,23 +85,26 @@ fn gather_in<'a>(
 {
     match expr {
         RawExpr::Number(_) | RawExpr::Index(_) | RawExpr::At(_) => Ok(()),
-        RawExpr::View(seen) => gather_view(known, text, seen, readings),
-        RawExpr::Apply { stencil, view } => gather_applied(known, text, *stencil, view, readings),
-        RawExpr::Neg(a) | RawExpr::Abs(a) => gather_in(known, text, a.get(), readings),
+        RawExpr::View(seen) => gather_view(alloc, known, text, seen, readings),
+        RawExpr::Apply { stencil, view } => gather_applied(
+            alloc, known, text, *stencil, view, readings,
+        ),
+        RawExpr::Neg(a) | RawExpr::Abs(a) => gather_in(alloc, known, text, a.get(), readings),
         RawExpr::Bin(_, a, b) => {
-            gather_in(known, text, a.get(), readings)?;
-            gather_in(known, text, b.get(), readings)
+            gather_in(alloc, known, text, a.get(), readings)?;
+            gather_in(alloc, known, text, b.get(), readings)
         }
         RawExpr::Where(c, a, b) => {
-            gather_in(known, text, c.get(), readings)?;
-            gather_in(known, text, a.get(), readings)?;
-            gather_in(known, text, b.get(), readings)
+            gather_in(alloc, known, text, c.get(), readings)?;
+            gather_in(alloc, known, text, a.get(), readings)?;
+            gather_in(alloc, known, text, b.get(), readings)
         }
     }
 }
 
 /// Puts a view at the end of a list. A scalar's name is none.
 fn gather_view<'a>(
+    _alloc: Global,
     known: &Known<'_>,
     text: &[u8],
     seen: &'a RawView,
@@ -120,6 +124,7 @@ fn gather_view<'a>(
 
 /// Puts a stencil on a view at the end of a list.
 fn gather_applied<'a>(
+    _alloc: Global,
     known: &'a Known<'_>,
     text: &[u8],
     stencil: Span,
@@ -149,7 +154,7 @@ fn gather_value<'a>(
     ensures { IfOk result (λ readings. readings.items ≡ readings_in (known_of known.now) text.now value.now) }
 {
     let mut readings = Vec::new(alloc);
-    gather_in(known, text, value, &mut readings)?;
+    gather_in(alloc, known, text, value, &mut readings)?;
     Ok(readings)
 }
 
@@ -169,7 +174,7 @@ fn gather_assigned<'a>(
 {
     let mut readings = Vec::new(alloc);
     readings.push(reading_at(known, text, None, target))?;
-    gather_in(known, text, value, &mut readings)?;
+    gather_in(alloc, known, text, value, &mut readings)?;
     Ok(readings)
 }
 
