@@ -9,7 +9,7 @@ use Rattle.std.proofs.lemmas.List.Elements.{All-contains, All-head, All-tail, fi
 use Rattle.std.proofs.lemmas.List.Kept.{AllPairs-filter}
 use Rattle.std.proofs.lemmas.Option.{slice_get_within, get_or_from_slice_get, same_Some}
 use Rattle.std.specs.List.{cons_option}
-use Rattle.std.specs.Prelude.{◌≡◌, ◌↔◌, ◌==◌, ◌&&◌, ℕ, zero, suc, ◌+◌, ◌*◌, ◌<◌, ◌≤◌, ℤ, pos, negsuc, ◌+ℤ◌, ◌-ℤ◌, ◌≤ℤ◌, Bool, true, false, Option, Some, None, IsSomeAnd, option_map, List, [], ◌∷◌, ◌++◌, length, map, filter, filter_map, flat_map, slice_get, slice_index_or, slice_set, take, All, AllPairs, Contains}
+use Rattle.std.specs.Prelude.{◌≡◌, ◌↔◌, ◌==◌, ◌&&◌, ℕ, zero, suc, ◌+◌, ◌*◌, ◌<◌, ◌≤◌, ℤ, pos, negsuc, ◌+ℤ◌, ◌-ℤ◌, ◌≤ℤ◌, Bool, true, false, Option, Some, None, IsSomeAnd, option_map, List, [], ◌∷◌, ◌++◌, length, map, filter, filter_map, flat_map, slice_get, slice_index_or, slice_set, take, All, Contains}
 use Rattle.pooma_domain.specs.Cells.{Interval, axis_length, count_of, cells_of, IsBefore, IsIn, IsOrdered}
 use Rattle.pooma_field.specs.declared.shapes.Slab.{Slab}
 use Rattle.pooma_field.specs.declared.updaters.Updater.{Updater}

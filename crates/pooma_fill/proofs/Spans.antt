@@ -2,7 +2,6 @@
 use Rattle.std.proofs.Common.{refl, sym, ap, ◌∙◌, subst, ⊎_elim, arith}
 use Rattle.std.proofs.lemmas.Bool.{cases_lt}
 use Rattle.std.proofs.lemmas.Int.{ints}
-use Rattle.std.proofs.lemmas.List.Elements.{All-head, All-tail}
 use Rattle.std.specs.Prelude.{◌≡◌, ◌↔◌, ℕ, ℤ, Some, None, List, [], ◌∷◌, length, map, slice_index_or, All, AllPairs, Contains}
 use Rattle.pooma_domain.specs.Cells.{Interval, IsBefore, IsIn, IsOrdered}
 use Rattle.pooma_field.proofs.SlabBoxes.{firsts_in, lasts_in}

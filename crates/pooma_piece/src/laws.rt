@@ -16,8 +16,8 @@ ghost use Rattle.pooma_piece.specs.Words.{AllWords, MakesWords};
 use pooma_domain::order_of_cells;
 
 /// What pieces ask for, as a law for proofs: a list of requests, the one to write for the object that is written, and all for
-/// objects that are there where those that it names are. What objects
-/// lend for these requests to a piece is, for each object that it names, the object's own content, or area.
+/// objects below any number that is above those that a piece names. What objects lend for these requests to a piece is, for each
+/// object that it names, the object's own content, or area.
 pub fn objects_lend()
     ensures form { (write : Option ℕ) (reads : List ℕ) → IsRequestList (requests_for write reads) }
     ensures written { (write : Option ℕ) (reads : List ℕ) → written_object (requests_for write reads) ≡ write }
