@@ -1,4 +1,3 @@
-pub mod Arrays
 pub mod Boxes
 pub mod Rows
 pub mod Statements

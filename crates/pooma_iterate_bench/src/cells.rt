@@ -5,11 +5,11 @@ ghost use Rattle.pooma_domain.specs.Cells.{IsIn};
 ghost use Rattle.pooma_store.specs.Standing.{HasTotal};
 ghost use Rattle.pooma_store.specs.Stored.{contents_of};
 
-use crate::program::opened;
 use crate::sample::{Sample, failed};
 use pooma_check::check;
-use pooma_domain::{Axis, BoxN, Cell};
+use pooma_domain::{Axis, Cell};
 use pooma_patch::Patch;
+use pooma_run::open_store;
 use pooma_store::Store;
 use std::alloc::Global;
 use std::io;
@@ -223,7 +223,7 @@ pub(crate) fn report<R: Clock + AllocGlobal + Print + Eprint>(rt: &R) -> io::Res
     let Ok(program) = check(alloc, SCRIPT) else {
         return Err(failed());
     };
-    let mut store = opened(alloc, &program)?;
+    let mut store = open_store(alloc, &program)?;
     let mut numbers = vec![in alloc; 0i64; SIDE * SIDE]?;
     let mut samples = sample_all(rt, alloc, &mut store, &mut numbers)?;
     'turns: for _ in 1..TURNS {

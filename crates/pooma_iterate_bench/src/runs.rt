@@ -2,12 +2,13 @@
 ghost use Rattle.std.specs.Prelude.{◌≡◌, ◌*◌, ◌<◌, length};
 
 use crate::cells::{number_for, sum_by_hand, sum_of, write_all};
-use crate::program::{first_pieces, opened};
+use crate::program::first_pieces;
 use crate::sample::{Sample, failed};
 use pooma_check::check;
 use pooma_num::{FaultKind, add, div, mul};
 use pooma_patch::Patch;
 use pooma_piece::{Piece, run_piece};
+use pooma_run::open_store;
 use std::alloc::{AllocError, Global};
 use std::io;
 use std::sync::Arc;
@@ -35,7 +36,7 @@ fn piece_of(alloc: Global, script: &[u8]) -> io::Result<(Piece, Vec<Arc<Patch>>)
     let Ok(program) = check(alloc, script) else {
         return Err(failed());
     };
-    let mut store = opened(alloc, &program)?;
+    let mut store = open_store(alloc, &program)?;
     let mut made = first_pieces(alloc, &program, &store)?;
     match made.pop() {
         Some(piece) => Ok((piece, store.lend())),

@@ -1,10 +1,11 @@
 //! The pieces of a statement, as they are made.
 ghost use Rattle.std.specs.Prelude.{◌≡◌};
 
-use crate::program::{first_pieces, opened};
+use crate::program::first_pieces;
 use crate::sample::failed;
 use pooma_check::check;
 use pooma_model::Program;
+use pooma_run::open_store;
 use pooma_store::Store;
 use std::alloc::Global;
 use std::io;
@@ -39,7 +40,7 @@ pub(crate) fn report<R: Clock + AllocGlobal + Print + Eprint>(rt: &R) -> io::Res
     let Ok(program) = check(alloc, SCRIPT) else {
         return Err(failed());
     };
-    let store = opened(alloc, &program)?;
+    let store = open_store(alloc, &program)?;
     let (count, mut least) = timed(rt, alloc, &program, &store)?;
     for _ in 1..TURNS {
         let (_, time) = timed(rt, alloc, &program, &store)?;
