@@ -7,7 +7,8 @@
 # Each crate goes through `rt ci` alone, after the crates below it, and the time is read at the lines that it prints between
 # these parts. Those that do so at once share the processors, so that each has one at least, and one that is alone has all.
 # JOBS says how many may do so, as in `JOBS=2 bench/gate.sh`; without it as many as there are processors. The fewer, the less
-# memory they want: 20 GB may not do for four of the largest.
+# memory they want: 20 GB may not do for four of the largest. On more than one processor the proof of a crate and that of its
+# tests go on side by side, so that these two figures are right as a sum alone.
 #
 # `rt` keeps what it proved beside the kit. So this works in a copy of the crates, with a kit of its own: links to the real
 # one, and nothing beside them. All is proved from nothing, and nothing stays. With --keep it uses the machine's own kit, and
@@ -92,9 +93,10 @@ measure() {
         echo "$line" >>"$work/$1.log"
         case $line in
         "rt: $1 is kept: "*) part; proof=kept ;;
-        *' is kept: '*) part ;;
         "rt: $1 proved") part; proof=$at ;;
         "rt: $1: its tests are proved") part; tests=$at ;;
+        # of a crate below, which has a row of its own
+        *' is kept: '* | 'rt: '*' proved') part ;;
         "rt: $1: trying its must-fail edits ("*) part; whole=$at; count=${line##*(}; count=${count%)} ;;
         "rt: must-fail $1/"*) [ "$edits" -gt 0 ] || { part; edits=$at; } ;;
         *' passed, '*) part; tests=$((tests + at)) ;;

@@ -1,5 +1,4 @@
 //! Pieces that are done on patches, beside loops by hand over plain vectors.
-ghost use Rattle.std.specs.Prelude.{◌≡◌, ◌*◌, ◌<◌, length};
 
 use crate::cells::{number_for, sum_by_hand, sum_of, write_all};
 use crate::program::first_pieces;
