@@ -8,6 +8,7 @@ use pooma_domain::Cell;
 use pooma_fill::Stale;
 use pooma_model::{Action, Program};
 use pooma_piece::Piece;
+use pooma_run::open_store;
 use pooma_split::pieces;
 use pooma_store::Store;
 use pooma_view::View;
@@ -37,20 +38,6 @@ impl Model for Scene {
     ghost invariant = { λ s. HasArrays s.store s.stale × (declared_in s.store (length s.scalars.items) ≡ declared_of s.stale) × (s.store.lent ≡ false) };
 }
 
-// The arrays of the program, all of whose numbers are 0.
-fn opened(alloc: Global, program: &Program) -> Result<Store, AllocError>
-    ensures shapes { IfOk result (λ store. store.shapes ≡ program.now.declared.shapes) }
-    ensures layouts { IfOk result (λ store. store.layouts ≡ program.now.declared.layouts) }
-    ensures home { IfOk result (λ store. store.lent ≡ false) }
-{
-    let mut store = Store::new(alloc);
-    'arrays: for array in 0..program.arrays() {
-        let layout = program.layout(array).copied(alloc)?;
-        store.declare(alloc, *program.shape(array), layout)?;
-    }
-    Ok(store)
-}
-
 // The number of an array's cell, where it is there.
 fn number(store: &Store, array: u32, c: Cell) -> Option<i64>
     requires { store.now.lent ≡ false }
@@ -66,7 +53,7 @@ impl Scene {
     fn of(alloc: Global, program: &Program) -> Result<Scene, AllocError>
         ensures { IfOk result (λ scene. scene ≡ program.now.declared) }
     {
-        let store = opened(alloc, program)?;
+        let store = open_store(alloc, program)?;
         let stale = Stale::new(alloc, program)?;
         let scalars = vec![in alloc; 0; program.scalars() as usize]?;
         Ok(Scene {
