@@ -20,18 +20,22 @@ pub fn shown(alloc: Global, line: &[u8]) -> Result<Vec<u8>, AllocError> {
         bytes: Vec::new(alloc),
         is_short: false,
     };
-    match parse_line(alloc, line) {
-        Ok(Some(form)) => put_form(&mut out, line, &form),
-        Ok(None) => put(&mut out, b"blank"),
-        Err(LineError::Syntax) => put(&mut out, b"syntax"),
-        Err(LineError::OutOfMemory) => out.is_short = true,
-    }
+    put_line(&mut out, line);
     let Text {
         alloc: _,
         bytes,
         is_short,
     } = out;
     if is_short { Err(AllocError) } else { Ok(bytes) }
+}
+
+fn put_line(out: &mut Text, line: &[u8]) {
+    match parse_line(out.alloc, line) {
+        Ok(Some(form)) => put_form(out, line, &form),
+        Ok(None) => put(out, b"blank"),
+        Err(LineError::Syntax) => put(out, b"syntax"),
+        Err(LineError::OutOfMemory) => out.is_short = true,
+    }
 }
 
 fn put(out: &mut Text, text: &[u8]) {
