@@ -10,7 +10,7 @@ use pooma_check::check;
 use pooma_domain::{Axis, Cell};
 use pooma_patch::Patch;
 use pooma_run::open_store;
-use pooma_store::Store;
+use pooma_store::{Store, patches_in_place};
 use std::alloc::Global;
 use std::io;
 use std::sync::Arc;
@@ -131,6 +131,7 @@ fn write_alone(alloc: Global, patch: &mut Arc<Patch>)
 pub(crate) fn write_all(alloc: Global, patches: &mut [Arc<Patch>])
     ensures { map (λ object. object.area) (contents_of patches.new) ≡ map (λ object. object.area) (contents_of patches.old) }
 {
+    patches_in_place();
     'patches: for patch in patches.iter_mut() {
         write_alone(alloc, patch);
     }
