@@ -1,44 +1,65 @@
 -- The requests that may go on stand at the front of a queue.
-use Rattle.std.proofs.Common.{◌≡◌, ◌+◌, ◌<◌, ◌≤◌, ℕ, zero, suc, Bool, true, false, List, [], ◌∷◌, length, take, drop, get_or, find, slice_get, All, Contains, Some, None, cond, refl, sym, ◌∙◌, ap, subst, arith, inl, inr}
+use Rattle.std.proofs.Common.{◌≡◌, ◌+◌, ◌-◌, ◌<◌, ◌≤◌, ℕ, zero, suc, Bool, true, false, List, [], ◌∷◌, length, take, drop, min, get_or, find, slice_get, Contains, Some, None, cond, refl, sym, ◌∙◌, ap, subst, arith, inl, inr, length-take}
 use Rattle.std.proofs.lemmas.Bool.Decides.{leb_tells}
-use Rattle.std.proofs.lemmas.List.{take_all}
-use Rattle.std.proofs.lemmas.List.Sums.{prefix_len_is}
-use Rattle.std.specs.List.{position, position_or_len, prefix_len}
+use Rattle.std.proofs.lemmas.List.{take_all, get_or-take, length-drop}
+use Rattle.std.proofs.lemmas.List.Sums.{prefix_len_is, fails_before_first, passes_at_first}
+use Rattle.std.specs.List.{position_or_len, prefix_len}
 use Rattle.std.proofs.lemmas.Option.{slice_get_within}
 use Rattle.pooma_queue.specs.declared.queue.Mode.{Mode}
 use Rattle.pooma_queue.specs.declared.queue.Mode.TheVariants.{Read, Write}
 use Rattle.pooma_queue.specs.declared.queue.Asked.{Asked}
-use Rattle.pooma_queue.specs.Requests.{holds_back, open_part, front_of, MayGoOn}
-use Rattle.pooma_queue.proofs.Places.{at_place}
+use Rattle.pooma_queue.specs.Requests.{holds_back, first_holding, open_part, front_of, MayGoOn, OnlyLastWrites}
+use Rattle.pooma_queue.proofs.Places.{all_before}
+use Rattle.pooma_queue.proofs.Holding.{first_within, first_from, holds_no_write, write_not_later}
 
--- the place of the first element that passes, where there is one, and where there is none
-pub position_there : {X : Type 0} (p : X → Bool) (xs : List X) (i : ℕ) → position p xs ≡ Some i → i ≡ position_or_len p xs
-position_there p xs i e =
-    elim (leb_tells (suc (position_or_len p xs)) (length xs)) [
-      | inl t ↦ let same : Some (position_or_len p xs) ≡ Some i = rw t.0 at e in cc
-      | inr f ↦ absurd (cc (rw f.0 at e))
-    ]
-
-pub position_past : {X : Type 0} (p : X → Bool) (xs : List X) → position p xs ≡ None → length xs ≤ position_or_len p xs
-position_past p xs e =
-    elim (leb_tells (suc (position_or_len p xs)) (length xs)) [
-      | inl t ↦ absurd (cc (rw t.0 at e))
-      | inr f ↦ omega (arith, f.1)
-    ]
-
--- a list up to the first element that passes, where none does
-pub up_to_end : {X : Type 0} (p : X → Bool) (xs : List X) → position p xs ≡ None → xs ≡ take (position_or_len p xs + 1) xs
-up_to_end p xs e = let past = position_past p xs e in sym (take_all (position_or_len p xs + 1) xs (omega arith))
-
--- where the first place is the first open one, the front begins there
-pub front_from : (requests : List Asked) (first : ℕ) → first ≤ length requests → All (λ a. a.released ≡ true) (take first requests)
-    → ((d : Asked) → first < length requests → (get_or requests first d).released ≡ false)
-    → (front : List Asked) → front ≡ take (position_or_len (holds_back Read) (drop first requests) + 1) (drop first requests) → front ≡ front_of requests
-front_from requests first le before here front e =
+-- the open requests begin with the first that holds back a write
+pub open_first : (requests : List Asked) → prefix_len (λ a. a.released) requests ≡ first_holding Write requests
+open_first requests =
     let d : Asked = record { entry = 0; mode = Read; released = false } in
-    let passed : (k : ℕ) → k < first → (get_or requests k d).released ≡ true = λ k below. at_place (λ a. a.released ≡ true) requests first before k d below (omega arith) in
-    let same : prefix_len (λ a. a.released) requests ≡ first = prefix_len_is (λ (a : Asked). a.released) requests first d le passed (here d) in
-    e ∙ ap (λ n. take (position_or_len (holds_back Read) (drop n requests) + 1) (drop n requests)) (sym same)
+    prefix_len_is (λ (a : Asked). a.released) requests (first_holding Write requests) d (first_within (holds_back Write) requests)
+    (λ k below. holds_no_write (get_or requests k d) (fails_before_first (holds_back Write) requests k d below))
+    (λ h. unreleased (get_or requests (first_holding Write requests) d) (passes_at_first (holds_back Write) requests d h))
+  where
+    unreleased : (a : Asked) → holds_back Write a ≡ true → a.released ≡ false
+    unreleased a holds = by a.released refl
+      where
+        by : (t : Bool) → a.released ≡ t → a.released ≡ false
+        by true e = absurd (cc (rw e at holds))
+        by false e = e
+
+-- the front goes from there to the first that holds back a read, with it
+pub front_is : (requests : List Asked) (first end : ℕ) → first ≡ first_holding Write requests → end ≡ min (length requests) (first_holding Read requests + 1)
+    → take (end - first) (drop first requests) ≡ front_of requests
+front_is requests first end begins ends =
+    ends_there ∙ ap (λ n. take (position_or_len (holds_back Read) (drop n requests) + 1) (drop n requests)) (begins ∙ sym (open_first requests))
+  where
+    part : List Asked
+    part = drop first requests
+
+    long : length part ≡ length requests - first
+    long = length-drop first requests
+
+    before : first ≤ first_holding Read requests
+    before = subst (λ n. n ≤ first_holding Read requests) (sym begins) (write_not_later requests)
+
+    from : first + position_or_len (holds_back Read) part ≡ first_holding Read requests
+    from = first_from (holds_back Read) requests first before
+
+    ends_there : take (end - first) part ≡ take (position_or_len (holds_back Read) part + 1) part
+    ends_there =
+        elim (leb_tells (first_holding Read requests + 1) (length requests)) [
+          | inl t ↦ let same : end - first ≡ position_or_len (holds_back Read) part + 1 = omega (arith, t.1, from, ends) in rw same refl
+          | inr f ↦
+              take_all (end - first) part (omega (arith, f.1, ends, long)) ∙ sym (take_all (position_or_len (holds_back Read) part + 1) part (omega (arith, f.1, from, long)))
+        ]
+
+-- and so only its last may be an open request to write
+pub only_last_writes : (requests : List Asked) → OnlyLastWrites (front_of requests)
+only_last_writes requests =
+    all_before (λ (a : Asked). holds_back Read a ≡ false) (front_of requests) (length (front_of requests) - 1) (λ k d below within.
+    let l = length-take (position_or_len (holds_back Read) (open_part requests) + 1) (open_part requests) in
+    let early : k < position_or_len (holds_back Read) (open_part requests) = omega (arith, l, below) in
+    ap (holds_back Read) (get_or-take (position_or_len (holds_back Read) (open_part requests) + 1) (open_part requests) k d (omega arith)) ∙ fails_before_first (holds_back Read) (open_part requests) k d early)
 
 -- where a search finds nothing before a place, nothing before it passes
 pub passes_none : {X : Type 0} (p : X → Bool) (xs : List X) (k i : ℕ) (d : X) → find p (take k xs) ≡ None → i < k → i < length xs → p (get_or xs i d) ≡ false

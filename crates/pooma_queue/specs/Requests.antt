@@ -1,5 +1,5 @@
 -- The requests of one object in the order in which they came, and which of them still hold a later one back.
-use Rattle.std.specs.Prelude.{◌≡◌, ◌<◌, ◌+◌, ℕ, Bool, true, false, not, ◌&&◌, List, take, drop, slice_get, Option, Some, None, find, option_and_then, nat_lt, ◌==◌, if◌then◌else◌, AllPairs}
+use Rattle.std.specs.Prelude.{◌≡◌, ◌<◌, ◌+◌, ◌-◌, ℕ, Bool, true, false, not, ◌&&◌, List, All, length, take, drop, slice_get, Option, Some, None, find, option_and_then, nat_lt, ◌==◌, if◌then◌else◌, AllPairs}
 use Rattle.std.specs.List.{prefix_len, position_or_len}
 use Rattle.pooma_queue.specs.declared.queue.Mode.{Mode}
 use Rattle.pooma_queue.specs.declared.queue.Mode.TheVariants.{Read, Write}
@@ -51,6 +51,10 @@ holder_of requests entry mode = find (λ earlier. nat_lt earlier.entry entry && 
 abbrev pub let_go : ℕ → Asked → Asked
 let_go entry asked = if asked.entry == entry then released asked else asked
 
+-- the place of the first request that holds back one of this mode; the number of requests where there is none
+abbrev pub first_holding : Mode → List Asked → ℕ
+first_holding mode requests = position_or_len (holds_back mode) requests
+
 -- the requests from the first one on that was not released
 abbrev pub open_part : List Asked → List Asked
 open_part requests = drop (prefix_len (λ asked. asked.released) requests) requests
@@ -58,3 +62,7 @@ open_part requests = drop (prefix_len (λ asked. asked.released) requests) reque
 -- of these, the ones up to the first open request to write, with it: each later one is held back by it
 abbrev pub front_of : List Asked → List Asked
 front_of requests = take (position_or_len (holds_back Read) (open_part requests) + 1) (open_part requests)
+
+-- none of these but the last is an open request to write
+abbrev pub OnlyLastWrites : List Asked → Type 0
+OnlyLastWrites requests = All (λ asked. holds_back Read asked ≡ false) (take (length requests - 1) requests)

@@ -1,7 +1,7 @@
-ghost use Rattle.std.specs.List.{position, position_or_len, take_while};
-ghost use Rattle.pooma_queue.specs.Requests.{holds_back, IsInOrder};
+ghost use Rattle.std.specs.List.{prefix_len};
+ghost use Rattle.pooma_queue.specs.Requests.{first_holding, IsInOrder};
 ghost use Rattle.pooma_queue.specs.declared.queue.Asked.{Asked};
-ghost use Rattle.std.specs.Prelude.{◌≡◌, ◌↔◌, ◌+◌, ◌<◌, ◌≤◌, ◌≢◌, ℕ, List, [], ◌∷◌, ◌++◌, false, nat_lt, length, map, slice_index_or, take, find, All, Contains, Some, true, IsTrue, IsOk, IfOk, OnOk, OnErr, IfSome, IsNone, slice_get, slice_set, option_map, vec_len, vec_capacity};
+ghost use Rattle.std.specs.Prelude.{◌≡◌, ◌↔◌, ◌+◌, ◌-◌, ◌<◌, ◌≤◌, ℕ, [], ◌∷◌, ◌++◌, false, min, nat_lt, length, map, take, drop, All, Contains, IsTrue, IsOk, IfOk, OnOk, OnErr, IfSome, IsNone, slice_get, slice_set, option_map};
 
 use std::alloc::{AllocError, Global};
 use std::marker::Model;
@@ -52,27 +52,32 @@ impl Asked {
 /// The requests of one object, in the order in which they came.
 ///
 /// Contracts see them as a list, beside the number of further requests for which there is room.
+///
+/// Each question takes the same time however many requests there are, and a push what its memory takes. A release by entry
+/// begins with a binary search; beyond that all releases of a queue together pass each request twice at the most.
 #[derive(Drop)]
 pub struct Queue {
     requests: Vec<Asked>,
-    // The first place whose request was not released, so that no call walks over those before it again.
+    // The place of the first request that was not released, and of the first of these that is to write: what holds a write
+    // back, and what a read. Where there is none it is the number of requests. Neither ever goes back.
     first: usize,
+    write: usize,
 }
 
 impl Model for Queue {
-    ghost use Rattle.std.specs.Prelude.{◌≡◌, ◌-◌, ◌<◌, ◌≤◌, true, false, take, All, length, slice_index_or, vec_len, vec_capacity};
-    ghost use Rattle.pooma_queue.specs.declared.queue.Asked.{Asked};
-    ghost use Rattle.pooma_queue.specs.Requests.{Waiting, IsInOrder};
+    ghost use Rattle.std.specs.Prelude.{◌≡◌, ◌-◌, vec_len, vec_capacity};
+    ghost use Rattle.pooma_queue.specs.declared.queue.Mode.TheVariants.{Read, Write};
+    ghost use Rattle.pooma_queue.specs.Requests.{Waiting, IsInOrder, first_holding};
 
     ghost Value = { Waiting };
 
     ghost view = { λ q. record { requests = q.requests.items; room = vec_capacity q.requests - vec_len q.requests } };
 
-    ghost invariant = { λ q. IsInOrder q.requests.items × (q.first ≤ length q.requests.items) × All (λ asked. asked.released ≡ true) (take q.first q.requests.items) × ((d : Asked) → q.first < length q.requests.items → (slice_index_or q.requests.items q.first d).released ≡ false) };
+    ghost invariant = { λ q. IsInOrder q.requests.items × (q.first ≡ first_holding Write q.requests.items) × (q.write ≡ first_holding Read q.requests.items) };
 }
 
 impl Queue {
-    ghost use Rattle.pooma_queue.specs.Requests.{IsInOrder, IsGranted, MayGoOn, blocker_of, front_of, holder_of, holds_back, let_go, released};
+    ghost use Rattle.pooma_queue.specs.Requests.{IsGranted, MayGoOn, OnlyLastWrites, blocker_of, front_of, holder_of, let_go, released};
 
     /// A queue with no requests and no room. It takes no memory.
     pub fn new(alloc: Global) -> Queue
@@ -82,6 +87,7 @@ impl Queue {
         Queue {
             requests: Vec::new(alloc),
             first: 0,
+            write: 0,
         }
     }
 
@@ -126,6 +132,10 @@ impl Queue {
             mode,
             released: false,
         })?;
+        // With no open request to write, `write` was the number of requests, and is so again behind one to read.
+        if self.write == place && !mode.conflicts(Mode::Read) {
+            self.write += 1;
+        }
         Ok(place)
     }
 
@@ -143,25 +153,46 @@ impl Queue {
         ensures first { result ≡ option_map (λ asked. asked.entry) (blocker_of self.now.requests k) }
         ensures none { IsNone result ↔ IsGranted self.now.requests k }
     {
-        let mode = self.requests[k].mode;
-        let from = self.first.min(k);
-        first_held(&self.requests[from..k], mode)
+        let place = self.first_holding(self.requests[k].mode);
+        if place < k {
+            Some(self.requests[place].entry)
+        } else {
+            None
+        }
     }
 
     /// The entry of the first request that holds back one of this mode by a later entry, whose own request need not be here.
+    /// It looks at one request alone.
     pub fn holder(&self, entry: u32, mode: Mode) -> Option<u32>
         ensures { result ≡ option_map (λ asked. asked.entry) (holder_of self.now.requests entry mode) }
     {
-        first_held(earlier_than(&self.requests[self.first..], entry), mode)
+        let asked = self.requests.get(self.first_holding(mode))?;
+        if asked.entry < entry {
+            Some(asked.entry)
+        } else {
+            None
+        }
+    }
+
+    // The place of the first request that holds back one of this mode, and the number of requests where there is none.
+    fn first_holding(&self, mode: Mode) -> usize
+        ensures { result ≡ first_holding mode self.now.requests }
+    {
+        match mode {
+            Mode::Read => self.write,
+            Mode::Write => self.first,
+        }
     }
 
     /// The requests from the first open one, which was not released, up to the first open one that is to write. Each open
-    /// request that may go on is among them, since that one holds back what comes behind it.
+    /// request that may go on is among them, since that one holds back what comes behind it; only the last may be an open one
+    /// to write. Where they begin and end is known, so this walks over none.
     pub fn front(&self) -> &[Asked]
         ensures requests { result.now ≡ front_of self.now.requests }
         ensures may_go_on { (k : ℕ) (asked : Asked) → MayGoOn self.now.requests k asked → Contains result.now asked }
+        ensures last { OnlyLastWrites result.now }
     {
-        up_to_open_write(&self.requests[self.first..])
+        up_to(&self.requests, self.first, self.write)
     }
 
     /// Marks the request of this entry as released, if there is one.
@@ -169,10 +200,11 @@ impl Queue {
         ensures requests { self.new.requests ≡ map (let_go entry) self.old.requests }
         ensures room { self.new.room ≡ self.old.room }
     {
-        let place = self.first + earlier_than(&self.requests[self.first..], entry).len();
+        let place = count_before(&self.requests, entry);
         if place < self.requests.len() && self.requests[place].entry == entry {
             self.requests[place].released = true;
-            self.first = first_open(&self.requests, self.first);
+            self.first = first_holding_from(&self.requests, self.first, Mode::Write);
+            self.write = first_holding_from(&self.requests, self.write, Mode::Read);
         }
     }
 
@@ -185,58 +217,37 @@ impl Queue {
         ensures room { self.new.room ≡ self.old.room }
     {
         self.requests[k].released = true;
-        self.first = first_open(&self.requests, self.first);
+        self.first = first_holding_from(&self.requests, self.first, Mode::Write);
+        self.write = first_holding_from(&self.requests, self.write, Mode::Read);
     }
 }
 
-// The entry of the first request that holds back one of this mode.
-fn first_held(earlier: &[Asked], mode: Mode) -> Option<u32>
-    ensures { result ≡ option_map (λ asked. asked.entry) (find (holds_back mode) earlier.now) }
+// The requests from one place up to another, with that one if it is there.
+fn up_to(requests: &[Asked], first: usize, last: usize) -> &[Asked]
+    requires order { first ≤ last }
+    requires within { last ≤ length requests.now }
+    ensures { result.now ≡ take (min (length requests.now) (last + 1) - first) (drop first requests.now) }
 {
-    earlier
-        .iter()
-        .find(|asked| asked.holds_back(mode))
-        .map(|asked| asked.entry)
+    let end = requests.len().min(last + 1);
+    &requests[first..end]
 }
 
-// The requests of the entries before this one: they stand in front of the others.
-fn earlier_than(requests: &[Asked], entry: u32) -> &[Asked]
+// How many requests are of entries before this one. They stand in front of the others.
+fn count_before(requests: &[Asked], entry: u32) -> usize
     requires { IsInOrder requests.now }
-    ensures { result.now ≡ take_while (λ asked. nat_lt asked.entry entry) requests.now }
+    ensures { result ≡ prefix_len (λ asked. nat_lt asked.entry entry) requests.now }
 {
-    &requests[..requests.partition_point(|asked| asked.entry < entry)]
+    requests.partition_point(|asked| asked.entry < entry)
 }
 
-// The requests up to the first open one that is to write, with it.
-fn up_to_open_write(requests: &[Asked]) -> &[Asked]
-    ensures { result.now ≡ take (position_or_len (holds_back Mode.Read) requests.now + 1) requests.now }
+// The place of the first request that holds back one of this mode, looked for from a place on that is not behind it.
+fn first_holding_from(requests: &[Asked], from: usize, mode: Mode) -> usize
+    requires { from ≤ first_holding mode requests.now }
+    ensures { result ≡ first_holding mode requests.now }
 {
-    match open_write(requests) {
-        Some(last) => &requests[..last + 1],
-        None => requests,
+    let mut place = from;
+    while place < requests.len() && !requests[place].holds_back(mode) {
+        place += 1;
     }
-}
-
-// The place of the first open request that is to write.
-fn open_write(requests: &[Asked]) -> Option<usize>
-    ensures { result ≡ position (holds_back Mode.Read) requests.now }
-{
-    requests
-        .iter()
-        .position(|asked| asked.holds_back(Mode::Read))
-}
-
-// The first place not below `from` whose request was not released.
-fn first_open(requests: &[Asked], from: usize) -> usize
-    requires within { from ≤ length requests.now }
-    requires before { All (λ asked. asked.released ≡ true) (take from requests.now) }
-    ensures within { result ≤ length requests.now }
-    ensures before { All (λ asked. asked.released ≡ true) (take result requests.now) }
-    ensures here { (d : Asked) → result < length requests.now → (slice_index_or requests.now result d).released ≡ false }
-{
-    let mut first = from;
-    while first < requests.len() && requests[first].released {
-        first += 1;
-    }
-    first
+    place
 }

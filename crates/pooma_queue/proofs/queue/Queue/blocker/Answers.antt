@@ -1,12 +1,23 @@
-use Rattle.std.proofs.Common.{option_map, ap, ◌∙◌}
+use Rattle.std.proofs.Common.{ap, sym, option_map}
 use Rattle.pooma_queue.specs.Requests.{blocker_of}
-use Rattle.pooma_queue.proofs.Places.{blocker_after, none_found}
+use Rattle.pooma_queue.proofs.Holding.{blocker_there, no_blocker}
+use Rattle.pooma_queue.proofs.Places.{none_found}
 use Rattle.pooma_queue.proofs.queue.Queue.blocker.Goals as goal
 
-pub returns-clause-first : goal.returns-clause-first
-returns-clause-first c =
-    let e = blocker_after c.self.inside.requests.items c.self.inside.first c.args.k c.index.result.now (rw (← c.self.view_is) at c.requires) c.index.ensures c.self.invariant.2 in
-    c.first_held.ensures ∙ rw (c.deref.ensures.value, c.min-from.ensures, ← c.self.view_is) (ap (option_map (λ asked. asked.entry)) e)
+pub returns-then-place-k-clause-first : goal.returns-then-place-k-clause-first
+returns-then-place-k-clause-first c =
+    let is = rw (← c.self.view_is) at c.first_holding-place.ensures in
+    let there = blocker_there c.self.inside.requests.items c.args.k c.first_holding-place.result c.index.result.now c.index-then-place-k.result.now (rw (← c.self.view_is) at c.requires) c.index.ensures is c.if-place-k.true c.index-then-place-k.ensures in
+    rw (← c.self.view_is) (sym (ap (option_map (λ asked. asked.entry)) there))
 
-pub returns-clause-none : goal.returns-clause-none
-returns-clause-none c = none_found c.first_held.result (blocker_of c.args.self.now.requests c.args.k) (returns-clause-first c)
+pub returns-then-place-k-clause-none : goal.returns-then-place-k-clause-none
+returns-then-place-k-clause-none c = none_found _ (blocker_of c.args.self.now.requests c.args.k) (returns-then-place-k-clause-first c)
+
+pub returns-else-place-k-clause-first : goal.returns-else-place-k-clause-first
+returns-else-place-k-clause-first c =
+    let is = rw (← c.self.view_is) at c.first_holding-place.ensures in
+    let none = no_blocker c.self.inside.requests.items c.args.k c.first_holding-place.result c.index.result.now (rw (← c.self.view_is) at c.requires) c.index.ensures is c.if-place-k.false in
+    rw (← c.self.view_is) (sym (ap (option_map (λ asked. asked.entry)) none))
+
+pub returns-else-place-k-clause-none : goal.returns-else-place-k-clause-none
+returns-else-place-k-clause-none c = none_found _ (blocker_of c.args.self.now.requests c.args.k) (returns-else-place-k-clause-first c)

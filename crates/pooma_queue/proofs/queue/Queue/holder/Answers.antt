@@ -1,28 +1,34 @@
-use Rattle.std.proofs.Common.{◌∙◌, ap, option_map, drop, take, length, ◌-◌, ℕ, Option, List, find, nat_lt}
-use Rattle.std.proofs.lemmas.List.{take_rest}
-use Rattle.std.specs.List.{take_while}
+use Rattle.std.proofs.Common.{◌≤◌, ◌∙◌, ap, sym, subst, length, arith, option_map}
+use Rattle.std.proofs.lemmas.Bool.{ltb-true, leb-false}
+use Rattle.std.proofs.lemmas.List.{get_or_default}
 use Rattle.pooma_queue.specs.declared.queue.Asked.{Asked}
-use Rattle.pooma_queue.specs.Requests.{holder_of, holds_back, Waiting}
-use Rattle.pooma_queue.proofs.Places.{holder_after}
-use Rattle.pooma_queue.proofs.Order.{in_order_dropped, holder_earlier}
+use Rattle.pooma_queue.proofs.Holding.{holder_there, no_holder}
 use Rattle.pooma_queue.proofs.queue.Queue.holder.Goals as goal
 
-pub earlier_than-requires : goal.earlier_than-requires
-earlier_than-requires c =
+pub returns-in_err-asked : goal.returns-in_err-asked
+returns-in_err-asked c =
     let requests = c.self.inside.requests.items in
-    let first = c.self.inside.first in
-    rw (c.deref.ensures.value, take_rest requests first) (in_order_dropped requests first c.self.invariant.0)
+    let place = c.first_holding.result in
+    let is = rw (← c.self.view_is) at c.first_holding.ensures in
+    let read = rw c.deref.ensures.value at c.in_err-asked.ensures.lookup in
+    let past = leb-false _ (length requests) (sym read.0) in
+    let none = no_holder requests c.args.entry place c.args.mode c.self.invariant.0 is (λ d within. absurd (omega (arith, past, within))) in
+    c.from_residual.ensures ∙ rw (← c.self.view_is) (sym (ap (option_map (λ asked. asked.entry)) none))
 
-pub returns : goal.returns
-returns c =
+pub returns-then-asked-entry : goal.returns-then-asked-entry
+returns-then-asked-entry c =
     let requests = c.self.inside.requests.items in
-    let first = c.self.inside.first in
-    let entry_of : Asked → ℕ = λ asked. asked.entry in
-    let found : List Asked → Option ℕ = λ xs. option_map entry_of (find (holds_back c.args.mode) (take_while (λ (asked : Asked). nat_lt asked.entry c.args.entry) xs)) in
-    let earlier = holder_earlier (drop first requests) c.args.entry c.args.mode (in_order_dropped requests first c.self.invariant.0) in
-    let all = holder_after requests first c.args.entry c.args.mode c.self.invariant.2 in
-    c.first_held.ensures
-    ∙ (ap (λ (xs : List Asked). option_map entry_of (find (holds_back c.args.mode) xs)) c.earlier_than.ensures
-    ∙ (ap (λ (xs : List Asked). found (take (length xs - first) (drop first xs))) c.deref.ensures.value
-    ∙ (ap found (take_rest requests first)
-    ∙ (ap (option_map entry_of) (earlier ∙ all) ∙ ap (λ (w : Waiting). option_map entry_of (holder_of w.requests c.args.entry c.args.mode)) c.self.view_is))))
+    let is = rw (← c.self.view_is) at c.first_holding.ensures in
+    let read = rw c.deref.ensures.value at c.in_ok-asked.ensures.lookup in
+    let there = holder_there requests c.args.entry c.first_holding.result c.args.mode c.in_ok-asked.asked.now is (ltb-true c.first_holding.result (length requests) (sym read.0)) read.1 c.if-asked-entry.true in
+    rw (← c.self.view_is) (sym (ap (option_map (λ asked. asked.entry)) there))
+
+pub returns-else-asked-entry : goal.returns-else-asked-entry
+returns-else-asked-entry c =
+    let requests = c.self.inside.requests.items in
+    let place = c.first_holding.result in
+    let is = rw (← c.self.view_is) at c.first_holding.ensures in
+    let read = rw c.deref.ensures.value at c.in_ok-asked.ensures.lookup in
+    let none = no_holder requests c.args.entry place c.args.mode c.self.invariant.0 is
+    (λ d within. subst (λ (asked : Asked). c.args.entry ≤ asked.entry) (read.1 ∙ get_or_default requests place c.in_ok-asked.asked.now d within) c.if-asked-entry.false) in
+    rw (← c.self.view_is) (sym (ap (option_map (λ asked. asked.entry)) none))

@@ -1,12 +1,19 @@
-use Rattle.std.proofs.Common.{◌≡◌, true, refl}
-use Rattle.pooma_queue.specs.declared.queue.Asked.{Asked}
-use Rattle.pooma_queue.proofs.Places.{all_set, set_released}
+use Rattle.std.proofs.Common.{refl}
+use Rattle.pooma_queue.specs.declared.queue.Mode.TheVariants.{Read, Write}
+use Rattle.pooma_queue.specs.Requests.{holds_back}
+use Rattle.pooma_queue.proofs.Places.{set_released}
+use Rattle.pooma_queue.proofs.Holding.{set_no_nearer}
 use Rattle.pooma_queue.proofs.queue.Queue.release.Goals as goal
 
-pub first_open-self-inside-requires-clause-before :
-    goal.first_open-self-inside-requires-clause-before
-first_open-self-inside-requires-clause-before c =
-    rw c.deref.ensures.value (all_set (λ (asked : Asked). asked.released ≡ true) c.self.inside.requests.items c.self.inside.first c.args.k _ c.self.invariant.2 (rw (← c.self.view_is) at c.requires.there) refl)
+pub first_holding_from-self-inside-requires : goal.first_holding_from-self-inside-requires
+first_holding_from-self-inside-requires c =
+    let low = set_no_nearer (holds_back Write) c.self.inside.requests.items c.args.k _ refl (rw (← c.self.view_is) at c.requires.there) in
+    rw (c.deref.ensures.value, c.self.invariant.1) low
+
+pub first_holding_from-self-inside-requires-2 : goal.first_holding_from-self-inside-requires-2
+first_holding_from-self-inside-requires-2 c =
+    let low = set_no_nearer (holds_back Read) c.self.inside.requests.items c.args.k _ refl (rw (← c.self.view_is) at c.requires.there) in
+    rw (c.deref-2.ensures.value, c.self.invariant.2) low
 
 pub returns-clause-requests : goal.returns-clause-requests
 returns-clause-requests c =
