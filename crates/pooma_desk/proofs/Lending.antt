@@ -1,13 +1,13 @@
 -- What a dispatch and a release of a pass rest on.
 use Rattle.std.proofs.Common.{◌≡◌, ◌<◌, ℕ, true, List, [], ◌∷◌, ◌++◌, length, drop, Contains, sym, ap, ◌∙◌, subst, ◌⊎◌, inl, inr, arith, append_assoc, append-nil, length-append}
-use Rattle.std.specs.Prelude.{Option, Some, None, IsTrue, slice_get}
+use Rattle.std.specs.Prelude.{◌↔◌, Option, Some, None, IsTrue, slice_get}
 use Rattle.std.proofs.lemmas.List.{map-append}
 use Rattle.std.proofs.lemmas.List.Elements.{filter_map-append, Contains-push, Contains-push_cases, Contains-append_right}
 use Rattle.atomic_table.specs.Table.{Me}
 use Rattle.atomic_table.specs.Seated.{TableId}
 use Rattle.pooma_machine.specs.declared.step.Event.{Event}
 use Rattle.pooma_machine.specs.declared.step.EventKind.TheVariants as kind
-use Rattle.pooma_machine.specs.Steps.{Comes, MayCome, status_of, is_out, is_released, event_of}
+use Rattle.pooma_machine.specs.Steps.{Comes, MayCome, IsWaiting, issued, status_of, is_out, is_released, event_of}
 use Rattle.pooma_machine.specs.Values.{Account, Meaning, Values, Lent, values, asks_of}
 use Rattle.pooma_law.specs.Histories.{IsHistoryOf}
 use Rattle.pooma_desk.specs.declared.sight.Noted.{Noted}
@@ -15,15 +15,24 @@ use Rattle.pooma_desk.specs.Sight.{Sight}
 use Rattle.pooma_desk.specs.Seen.{events_of, works_of, plan_after, history_after, is_one_of}
 use Rattle.pooma_desk.specs.Rule.{IsAfter, MayNote, first_of}
 use Rattle.pooma_desk.specs.Steps.{noting}
-use Rattle.pooma_desk.specs.Tokens.{Token, Looks, HasOut, plan_of, history_of, values_after, token_of}
+use Rattle.pooma_desk.specs.Tokens.{Token, Looks, Adds, AddsTwo, HasOut, own_calls, plan_of, history_of, values_after, token_of, called}
 use Rattle.pooma_desk.specs.Turns.{IsPlaced, IsSeenLegal}
-use Rattle.pooma_desk.proofs.Calls.{IsOut, as_event, there_under, under_there, event_there, not_released, get_front}
-use Rattle.pooma_desk.proofs.Turning.{whole_row, after_event}
+use Rattle.pooma_desk.proofs.Calls.{IsOut, as_event, there_under, under_there, event_there, not_released, get_front, own_first, may_dispatch}
+use Rattle.pooma_desk.proofs.Fronts.{calls_more}
+use Rattle.pooma_desk.proofs.Turning.{whole_row, after_event, legal_seen}
 
 module _ {W V : Type 0} where
   -- the machine after a dispatch or a release
   pub after_called : (start machine new : Account W V) (log : List (Noted W)) (event : Event) → IsAfter start machine log → new.plan ≡ machine.plan → new.opening ≡ machine.opening → new.history ≡ machine.history ++ event ∷ [] → IsAfter start new (log ++ (record { event = event; work = None }) ∷ [])
   after_called start machine new log event h plan opening history = after_event start machine new log (record { event = event; work = None }) h (plan ∙ sym (append-nil machine.plan)) opening history
+
+  -- what the machine has dispatched may be noted
+  pub may_note_dispatch : {O S : Type 0} (meaning : Meaning W V O S) (v : Sight W V) (machine : Account W V) (seat next j : ℕ) → IsPlaced v seat next → IsAfter v.start.machine machine v.seen → IsHistoryOf meaning machine.plan machine.history → issued machine.history ≡ length machine.plan → IsWaiting machine.history j
+      → ((plan : List W) (history : List Event) → IsHistoryOf meaning plan history → (k : ℕ) → IsTrue (is_released (status_of history k)) ↔ ((at : ℕ) × Contains history (event_of kind.Release k at)))
+      → MayNote v (called kind.Dispatch j seat)
+  may_note_dispatch meaning v machine seat next j placed after legal count waits released =
+      let seen = legal_seen meaning v machine after legal count in
+      may_dispatch v seat next j placed (subst (λ h. IsWaiting h j) after.history waits) (λ at there. (released (plan_after v.start.machine v.seen) (history_after v.start.machine v.seen) seen.legal j).1 (at, there))
 
   -- what was dispatched is out with the pass
   pub out_noted : (desk : TableId) (result : Token W V) (v : Sight W V) (seat next number : ℕ) (n : Noted W) (me : Me (Option (Account W V)) (Sight W V)) (out : List (ℕ × Option (Account W V))) → IsPlaced v seat next → MayNote v n → n.event.kind ≡ kind.Dispatch → n.event.entry ≡ number
@@ -70,9 +79,9 @@ module _ {W V : Type 0} where
       ∙ sym (append_assoc pass.from.machine.history (events_of pass.seen) (events_of looks.more))))
 
   -- what was seen requested is there in the turn
-  pub issued_in_turn : (desk : TableId) (pass : Token W V) (v : Sight W V) (machine : Account W V) (j : ℕ) → Looks pass (token_of desk v) → IsAfter v.start.machine machine v.seen → j < length (plan_of pass) → j < length machine.plan
-  issued_in_turn desk pass v machine j looks after below =
-      let l : length machine.plan ≡ length (plan_of pass ++ works_of looks.more) = ap length (after.plan ∙ plan_grows desk pass v looks) in
+  pub issued_in_turn : (desk : TableId) (pass : Token W V) (v : Sight W V) (j : ℕ) → Looks pass (token_of desk v) → j < length (plan_of pass) → j < length (plan_after v.start.machine v.seen)
+  issued_in_turn desk pass v j looks below =
+      let l : length (plan_after v.start.machine v.seen) ≡ length (plan_of pass ++ works_of looks.more) = ap length (plan_grows desk pass v looks) in
       omega (arith, l, length-append (plan_of pass) (works_of looks.more), below)
 
   pub work_in_turn : (desk : TableId) (pass : Token W V) (v : Sight W V) (machine : Account W V) (j : ℕ) (work : W) → Looks pass (token_of desk v) → IsAfter v.start.machine machine v.seen → slice_get (plan_of pass) j ≡ Some work → slice_get machine.plan j ≡ Some work
@@ -119,3 +128,15 @@ module _ {W V : Type 0} where
 
   pub history_told : (desk : TableId) (pass : Token W V) (v : Sight W V) (machine : Account W V) → pass ≡ token_of desk v → IsAfter v.start.machine machine v.seen → history_of pass ≡ machine.history
   history_told desk pass v machine is after = ap history_of is ∙ sym after.history
+
+  -- the two events of a release and of a dispatch behind it, as a pass adds them
+  pub adds_then : (desk : TableId) (pass result : Token W V) (v : Sight W V) (seat next : ℕ) (one n : Noted W) (me : Me (Option (Account W V)) (Sight W V)) (out : List (ℕ × Option (Account W V))) → Adds pass (token_of desk v) one → IsPlaced v seat next → n.event.seat ≡ seat
+      → me ≡ (noting v n, out) → result ≡ token_of desk me.0 → AddsTwo pass result one n
+  adds_then desk pass result v seat next one n me out adds p mine noted is =
+      let own = subst (λ xs. is_one_of xs n.event.seat ≡ true) (sym (whole_row v.seats seat p.own)) (subst (λ s. is_one_of v.seats s ≡ true) (sym mine) (own_first v seat next p)) in
+      subst (λ t. AddsTwo pass t one n) (sym (is ∙ ap (λ (m : Me (Option (Account W V)) (Sight W V)). token_of desk m.0) noted)) (record {
+        same = record { from = adds.same.from; seat = adds.same.seat; joined = adds.same.joined; shares = adds.same.shares; left = adds.same.left };
+        between = adds.between;
+        seen = ap (λ l. l ++ n ∷ []) adds.seen ∙ append_assoc (pass.seen ++ adds.between) (one ∷ []) (n ∷ []);
+        own = calls_more (first_of v.seats ∷ drop 1 v.seats) v.seen n own ∙ (ap (λ l. l ++ n ∷ []) adds.own ∙ append_assoc (own_calls pass) (one ∷ []) (n ∷ []));
+      })

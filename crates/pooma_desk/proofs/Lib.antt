@@ -9,3 +9,4 @@ pub mod Sharing
 pub mod Asking
 pub mod Lending
 pub mod Crosses
+pub mod Readying

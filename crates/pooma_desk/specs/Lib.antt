@@ -4,3 +4,4 @@ pub mod Rule
 pub mod Steps
 pub mod Tokens
 pub mod Turns
+pub mod Readied

@@ -79,6 +79,14 @@ pub record Adds {W V : Type 0} (old new : Token W V) (event : Noted W) : Type 0 
   pub seen : new.seen ≡ (old.seen ++ between) ++ event ∷ []
   pub own : own_calls new ≡ own_calls old ++ event ∷ []
 
+-- the pass has seen what it had seen, maybe more, and last these two events, one right behind the other, which are the two
+-- calls that it has made
+pub record AddsTwo {W V : Type 0} (old new : Token W V) (one other : Noted W) : Type 0 where
+  pub same : IsSamePass old new
+  pub between : List (Noted W)
+  pub seen : new.seen ≡ (old.seen ++ between) ++ one ∷ other ∷ []
+  pub own : own_calls new ≡ own_calls old ++ one ∷ other ∷ []
+
 -- an event that is no request, and the request of a work
 abbrev pub called : {W : Type 0} → EventKind → ℕ → ℕ → Noted W
 called kind entry seat = record { event = record { kind = kind; entry = entry; seat = seat }; work = None }

@@ -1,17 +1,23 @@
-ghost use Rattle.std.specs.Prelude.{◌≡◌, ◌∷◌, ◌++◌, ◌<◌, [], ℕ, List, Some, IfOk, IfErr, OnErr, OnOk, length, slice_get};
+ghost use Rattle.std.specs.Prelude.{◌≡◌, ◌∷◌, ◌++◌, ◌<◌, [], ℕ, List, Some, IfSome, IfNone, IfOk, IfErr, OnErr, OnOk, IsOkUnless, length, slice_get};
 ghost use Rattle.pooma_machine.specs.declared.step.Event.{Event};
 ghost use Rattle.pooma_machine.specs.declared.step.EventKind.TheVariants as kind;
-ghost use Rattle.pooma_machine.specs.Steps.{event_of};
+ghost use Rattle.pooma_machine.specs.declared.refusal.DispatchError.{DispatchError};
+ghost use Rattle.pooma_machine.specs.Steps.{IsReady, event_of};
 ghost use Rattle.pooma_machine.specs.Values.{asks_of};
 ghost use Rattle.pooma_machine.specs.Causes.{Explains};
 ghost use Rattle.pooma_machine.specs.Became.{TellsReady};
-ghost use Rattle.pooma_desk.specs.Tokens.{Adds, Looks, HasOut, IsLegalFor, plan_of, history_of, values_after, called};
+ghost use Rattle.pooma_desk.specs.Rule.{IsAfter};
+ghost use Rattle.pooma_desk.specs.Steps.{noting};
+ghost use Rattle.pooma_desk.specs.Tokens.{Adds, AddsTwo, Looks, HasOut, IsLegalFor, plan_of, history_of, values_after, called, token_of};
+ghost use Rattle.pooma_desk.specs.Turns.{IsInTurn};
+ghost use Rattle.pooma_desk.specs.Readied.{EndsWith, IsLeastReadied, NoneReadied};
 
 use crate::desk::Desk;
 use crate::pass::Pass;
+use crate::turn::Turn;
 use pooma_law::{legal_histories_grow, legal_histories_tell, values_stay};
 use pooma_machine::{Became, DispatchError, Done, Event, EventKind, Loan, Work};
-use std::alloc::Global;
+use std::alloc::{AllocError, Global};
 use std::sync::Wait;
 
 impl<W: Work> Desk<W> {
@@ -36,19 +42,9 @@ impl<W: Work> Desk<W> {
         ensures refused { IfErr result.1 (Explains (asks_of W.meaning (plan_of result.0)) (history_of result.0) j) }
         ensures legal { IsLegalFor W.meaning result.0 }
     {
-        legal_histories_tell::<W>();
         let mut turn = self.enter(rt, pass);
-        let _ = turn.machine.history();
-        match turn.machine.dispatch(alloc, turn.seat, j) {
-            Ok(loan) => {
-                let event = Event {
-                    kind: EventKind::Dispatch,
-                    entry: j,
-                    seat: turn.seat,
-                };
-                self.note_called(&mut turn.place, &turn.machine, event);
-                (self.leave(turn), Ok(loan))
-            }
+        match self.dispatch_in_turn(&mut turn, alloc, j) {
+            Ok(loan) => (self.leave(turn), Ok(loan)),
             Err(error) => (self.leave(turn), Err(error)),
         }
     }
@@ -65,18 +61,128 @@ impl<W: Work> Desk<W> {
             × TellsReady (asks_of W.meaning (plan_of result.0)) before (history_of result.0) result.1 }
         ensures legal { IsLegalFor W.meaning result.0 }
     {
+        let (turn, became) = self.enter_and_release(rt, pass, done);
+        (self.leave(turn), became)
+    }
+
+    /// Releases an entry that this pass, or one that was joined into it, has out, and in the same turn dispatches the least
+    /// entry that became ready by it, so that no other pass can be faster. It waits for the turn once. It answers the loan of
+    /// that entry, or none exactly where none became ready. Only want of memory refuses the dispatch; the entry is released
+    /// all the same, and the other is as ready as before.
+    pub fn release_and_dispatch<R: Wait>(
+        &self,
+        rt: &R,
+        alloc: Global,
+        pass: Pass<W>,
+        done: Done<W>,
+    ) -> (Pass<W>, Result<Option<Loan<W>>, AllocError>)
+        requires desk { pass.from ≡ self.now }
+        requires out { HasOut pass done.entry }
+        requires work { slice_get (plan_of pass) done.entry ≡ Some done.work }
+        requires lent { done.lent ≡ (values_after W.meaning pass).lent done.entry }
+        // A loan: the release and the dispatch are the last two events and the two calls of the pass.
+        ensures next { IfOk result.1 (λ next. IfSome next (λ loan.
+            AddsTwo pass result.0 (called kind.Release done.entry pass.seat) (called kind.Dispatch loan.entry pass.seat))) }
+        ensures least { IfOk result.1 (λ next. IfSome next (λ loan.
+            EndsWith (history_of result.0) (event_of kind.Release done.entry pass.seat ∷ event_of kind.Dispatch loan.entry pass.seat ∷ [])
+            (λ before. IsLeastReadied (asks_of W.meaning (plan_of result.0)) before (event_of kind.Release done.entry pass.seat) loan.entry))) }
+        ensures out { IfOk result.1 (λ next. IfSome next (λ loan. HasOut result.0 loan.entry)) }
+        ensures work { IfOk result.1 (λ next. IfSome next (λ loan. slice_get (plan_of result.0) loan.entry ≡ Some loan.work)) }
+        ensures lent { IfOk result.1 (λ next. IfSome next (λ loan. loan.lent ≡ (values_after W.meaning result.0).lent loan.entry)) }
+        // None: the release is the one call, and no entry became ready.
+        ensures released { IfOk result.1 (λ next. IfNone next (Adds pass result.0 (called kind.Release done.entry pass.seat))) }
+        ensures none { IfOk result.1 (λ next. IfNone next (
+            EndsWith (history_of result.0) (event_of kind.Release done.entry pass.seat ∷ [])
+            (λ before. NoneReadied (asks_of W.meaning (plan_of result.0)) before (event_of kind.Release done.entry pass.seat)))) }
+        // Refused: the release is the one call, and an entry became ready by it, which still is.
+        ensures err { OnErr result.1 (Adds pass result.0 (called kind.Release done.entry pass.seat)) }
+        ensures ready { OnErr result.1 (
+            EndsWith (history_of result.0) (event_of kind.Release done.entry pass.seat ∷ [])
+            (λ before. (j : ℕ) × IsLeastReadied (asks_of W.meaning (plan_of result.0)) before (event_of kind.Release done.entry pass.seat) j)) }
+        ensures legal { IsLegalFor W.meaning result.0 }
+    {
+        legal_histories_tell::<W>();
+        let (mut turn, became) = self.enter_and_release(rt, pass, done);
+        let _ = turn.machine.history();
+        let Some(next) = became.entries().first().copied() else {
+            return (self.leave(turn), Ok(None));
+        };
+        match self.dispatch_in_turn(&mut turn, alloc, next) {
+            Ok(loan) => (self.leave(turn), Ok(Some(loan))),
+            Err(error) => match error {
+                DispatchError::OutOfMemory => (self.leave(turn), Err(AllocError)),
+                _ => unreachable!(),
+            },
+        }
+    }
+
+    // Dispatches an entry in the turn, and notes it. Where it is refused, nothing changes.
+    fn dispatch_in_turn(
+        &self,
+        turn: &mut Turn<W>,
+        alloc: Global,
+        j: u32,
+    ) -> Result<Loan<W>, DispatchError>
+        requires desk { turn.old.place.table_id ≡ self.now.desk }
+        requires start { turn.old.place.me.0.start.machine ≡ self.now.machine }
+        requires turn { IsInTurn turn.old.place.me turn.old.seat turn.old.next }
+        requires after { IsAfter turn.old.place.me.0.start.machine turn.old.machine turn.old.place.me.0.seen }
+        requires issued { j < length (plan_of (token_of self.now.desk turn.old.place.me.0)) }
+        ensures desk { turn.new.place.table_id ≡ self.now.desk }
+        ensures seat { turn.new.seat ≡ turn.old.seat }
+        ensures turn { IsInTurn turn.new.place.me turn.new.seat turn.new.next }
+        ensures after { IsAfter turn.new.place.me.0.start.machine turn.new.machine turn.new.place.me.0.seen }
+        ensures noted { OnOk result (turn.new.place.me ≡ (noting turn.old.place.me.0 (called kind.Dispatch j turn.old.seat), turn.old.place.me.1)) }
+        ensures out { OnOk result (HasOut (token_of self.now.desk turn.new.place.me.0) j) }
+        ensures entry { IfOk result (λ loan. loan.entry ≡ j) }
+        ensures work { IfOk result (λ loan. slice_get (plan_of (token_of self.now.desk turn.new.place.me.0)) j ≡ Some loan.work) }
+        ensures lent { IfOk result (λ loan. loan.lent ≡ (values_after W.meaning (token_of self.now.desk turn.new.place.me.0)).lent j) }
+        ensures err { OnErr result (turn.new.place.me ≡ turn.old.place.me) }
+        ensures refused { IfErr result (Explains (asks_of W.meaning (plan_of (token_of self.now.desk turn.new.place.me.0))) (history_of (token_of self.now.desk turn.new.place.me.0)) j) }
+        ensures succeeds { IsReady (asks_of W.meaning (plan_of (token_of self.now.desk turn.old.place.me.0))) (history_of (token_of self.now.desk turn.old.place.me.0)) j → IsOkUnless result DispatchError.OutOfMemory }
+    {
+        legal_histories_tell::<W>();
+        let _ = turn.machine.history();
+        match turn.machine.dispatch(alloc, turn.seat, j) {
+            Ok(loan) => {
+                let dispatched = Event {
+                    kind: EventKind::Dispatch,
+                    entry: j,
+                    seat: turn.seat,
+                };
+                self.note_called(&mut turn.place, &turn.machine, dispatched);
+                Ok(loan)
+            }
+            Err(error) => Err(error),
+        }
+    }
+
+    // Takes the turn, releases the entry in it, and notes that.
+    fn enter_and_release<R: Wait>(&self, rt: &R, pass: Pass<W>, done: Done<W>) -> (Turn<W>, Became)
+        requires desk { pass.from ≡ self.now }
+        requires out { HasOut pass done.entry }
+        requires work { slice_get (plan_of pass) done.entry ≡ Some done.work }
+        requires lent { done.lent ≡ (values_after W.meaning pass).lent done.entry }
+        ensures desk { result.0.place.table_id ≡ self.now.desk }
+        ensures seat { result.0.seat ≡ pass.seat }
+        ensures turn { IsInTurn result.0.place.me result.0.seat result.0.next }
+        ensures after { IsAfter result.0.place.me.0.start.machine result.0.machine result.0.place.me.0.seen }
+        ensures adds { Adds pass (token_of self.now.desk result.0.place.me.0) (called kind.Release done.entry pass.seat) }
+        ensures became { EndsWith (history_of (token_of self.now.desk result.0.place.me.0)) (event_of kind.Release done.entry pass.seat ∷ [])
+            (λ before. TellsReady (asks_of W.meaning (plan_of (token_of self.now.desk result.0.place.me.0))) before (history_of (token_of self.now.desk result.0.place.me.0)) result.1) }
+    {
         legal_histories_grow::<W>();
         legal_histories_tell::<W>();
         values_stay::<W>();
         let mut turn = self.enter(rt, pass);
         let _ = turn.machine.history();
-        let event = Event {
+        let released = Event {
             kind: EventKind::Release,
             entry: done.entry(),
             seat: turn.seat,
         };
         let became = turn.machine.release(turn.seat, done);
-        self.note_called(&mut turn.place, &turn.machine, event);
-        (self.leave(turn), became)
+        self.note_called(&mut turn.place, &turn.machine, released);
+        (turn, became)
     }
 }

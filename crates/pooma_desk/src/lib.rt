@@ -1,8 +1,8 @@
 //! One machine behind one turn, for many callers.
 //!
 //! A desk has one machine, and its callers have passes. A caller requests, dispatches and releases through its pass; each of
-//! these is done by the holder of the turn, so there is one history, and each call is one event of it. What is lent is worked
-//! on outside the turn.
+//! these is done by the holder of the turn, so there is one history, and each of them is one event of it. A release and the
+//! dispatch of what became ready by it may share a turn. What is lent is worked on outside the turn.
 //!
 //! # The steps
 //!
@@ -20,8 +20,8 @@
 //! | 6 | puts the machine back into the slot taken, as plain memory | the slot | nothing | none |
 //! | 7 | stores 0, and gives the slot back | word 0 | the holder is outside | none |
 //!
-//! The machine's own call runs between steps 4 and 5, and nothing else does. A try of step 3 that finds the turn held is made
-//! again.
+//! The machine's own calls run between steps 4 and 6, and nothing else does: one of them, with step 5 behind it where it was an
+//! event; or a release and then a dispatch, each with a step 5 of its own. A try of step 3 that finds the turn held is made again.
 #![tactic(auto)]
 
 pub use desk::Desk;
