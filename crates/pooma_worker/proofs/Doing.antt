@@ -1,14 +1,14 @@
 -- What a loop makes of its pass, step by step, and which entries are known to be there.
-use Rattle.std.proofs.Common.{◌≡◌, ◌<◌, ◌≤◌, ℕ, List, [], ◌∷◌, ◌++◌, take, get_or, sym, ap, ◌∙◌, refl, append_assoc, append-nil, arith, slice_get, IfSome}
-use Rattle.std.specs.Prelude.{Some, None, Option, IsSome}
+use Rattle.std.proofs.Common.{◌≡◌, ◌<◌, ◌≤◌, ℕ, List, [], ◌∷◌, ◌++◌, sym, ap, ◌∙◌, refl, append_assoc, append-nil, arith, slice_get}
+use Rattle.std.specs.Prelude.{Some, IsSome}
 use Rattle.std.proofs.lemmas.Grind.{flat_map-append}
 use Rattle.pooma_machine.specs.declared.step.Request.{Request}
 use Rattle.pooma_machine.specs.declared.step.Event.{Event}
 use Rattle.pooma_machine.specs.declared.step.EventKind.TheVariants as kind
 use Rattle.pooma_machine.specs.Steps.{IsReady, status_of}
-use Rattle.pooma_machine.specs.Became.{Woken, TellsReady}
-use Rattle.pooma_desk.specs.Tokens.{Token, IsSamePass, Looks, Adds, own_calls, called}
-use Rattle.pooma_worker.specs.Working.{Works, turns_of, calls_of}
+use Rattle.pooma_desk.specs.declared.sight.Noted.{Noted}
+use Rattle.pooma_desk.specs.Tokens.{Token, IsSamePass, Looks, Adds, AddsTwo, own_calls, called}
+use Rattle.pooma_worker.specs.Working.{Works, WorksFrom, turns_of, calls_of}
 
 module _ {W V : Type 0} where
   pub same_then : (a b c : Token W V) → IsSamePass a b → IsSamePass b c → IsSamePass a c
@@ -51,18 +51,80 @@ module _ {W V : Type 0} where
   pub works_looked : (a b c : Token W V) → Works a b → Looks b c → Works a c
   works_looked a b c works look = works_then a b c works (works_look b c look)
 
-  -- an entry was dispatched, and then released
-  pub works_one : (a b c : Token W V) (j : ℕ) → Adds a b (called kind.Dispatch j a.seat) → Adds b c (called kind.Release j b.seat) → Works a c
-  works_one a b c j p q =
+-- the calls of doing some entries and then one more
+calls_more : {W : Type 0} (calls : List (Noted W)) (seat : ℕ) (entries : List ℕ) (j : ℕ) → calls ++ calls_of seat (entries ++ j ∷ []) ≡ (calls ++ calls_of seat entries) ++ turns_of seat j
+calls_more calls seat entries j = ap (λ l. calls ++ l) (flat_map-append (turns_of seat) entries (j ∷ [])) ∙ sym (append_assoc calls (calls_of seat entries) (turns_of seat j))
+
+-- the first of a longer list
+first_stays : (xs ys : List ℕ) (x : ℕ) → slice_get xs 0 ≡ Some x → slice_get (xs ++ ys) 0 ≡ Some x
+first_stays [] ys x e = absurd (cc)
+first_stays (z ∷ xs) ys x e = e
+
+-- the same pass, which has seen what it had seen and maybe more; the calls that it has made since are those of doing entries,
+-- one after another, and last the dispatch of this one; the first of all these entries is the one that it was to begin with
+pub record IsUnderway {W V : Type 0} (old new : Token W V) (entry j : ℕ) : Type 0 where
+  pub same : IsSamePass old new
+  pub more : List (Noted W)
+  pub seen : new.seen ≡ old.seen ++ more
+  pub entries : List ℕ
+  pub own : own_calls new ≡ (own_calls old ++ calls_of old.seat entries) ++ called kind.Dispatch j old.seat ∷ []
+  pub first : slice_get (entries ++ j ∷ []) 0 ≡ Some entry
+
+module _ {W V : Type 0} where
+  -- the first entry was dispatched
+  pub underway_first : (a b : Token W V) (j : ℕ) → Adds a b (called kind.Dispatch j a.seat) → IsUnderway a b j j
+  underway_first a b j p =
       let first = called kind.Dispatch j a.seat ∷ [] in
-      let last = called kind.Release j b.seat ∷ [] in
+      record {
+        same = p.same;
+        more = p.between ++ first;
+        seen = p.seen ∙ append_assoc a.seen p.between first;
+        entries = [];
+        own = p.own ∙ ap (λ l. l ++ first) (sym (append-nil (own_calls a)));
+        first = refl;
+      }
+
+  -- it was released, and the next one dispatched
+  pub underway_next : (a b c : Token W V) (entry j k : ℕ) → IsUnderway a b entry j → AddsTwo b c (called kind.Release j b.seat) (called kind.Dispatch k b.seat) → IsUnderway a c entry k
+  underway_next a b c entry j k p q =
+      let done = own_calls a ++ calls_of a.seat p.entries in
+      let both = λ (s : ℕ). called kind.Release j s ∷ called kind.Dispatch k s ∷ [] in
       record {
         same = same_then a b c p.same q.same;
-        more = (p.between ++ first) ++ (q.between ++ last);
-        seen = q.seen ∙ (append_assoc b.seen q.between last ∙ (ap (λ l. l ++ (q.between ++ last)) (p.seen ∙ append_assoc a.seen p.between first) ∙ append_assoc a.seen (p.between ++ first) (q.between ++ last)));
-        entries = j ∷ [];
-        own = q.own ∙ (ap (λ l. l ++ last) p.own ∙ (append_assoc (own_calls a) first last ∙ ap (λ s. own_calls a ++ (called kind.Dispatch j a.seat ∷ called kind.Release j s ∷ [])) p.same.seat));
+        more = p.more ++ (q.between ++ both b.seat);
+        seen = q.seen ∙ (append_assoc b.seen q.between (both b.seat) ∙ (ap (λ l. l ++ (q.between ++ both b.seat)) p.seen ∙ append_assoc a.seen p.more (q.between ++ both b.seat)));
+        entries = p.entries ++ j ∷ [];
+        own = q.own
+            ∙ (ap (λ l. l ++ both b.seat) p.own
+            ∙ (ap (λ s. (done ++ called kind.Dispatch j a.seat ∷ []) ++ both s) p.same.seat
+            ∙ (append_assoc done (called kind.Dispatch j a.seat ∷ []) (both a.seat)
+            ∙ (sym (append_assoc done (turns_of a.seat j) (called kind.Dispatch k a.seat ∷ []))
+            ∙ ap (λ l. l ++ called kind.Dispatch k a.seat ∷ []) (sym (calls_more (own_calls a) a.seat p.entries j))))));
+        first = first_stays (p.entries ++ j ∷ []) (k ∷ []) entry p.first;
       }
+
+  -- it was released, and no other dispatched
+  pub underway_last : (a b c : Token W V) (entry j : ℕ) → IsUnderway a b entry j → Adds b c (called kind.Release j b.seat) → WorksFrom a c entry
+  underway_last a b c entry j p q =
+      let done = own_calls a ++ calls_of a.seat p.entries in
+      let last = λ (s : ℕ). called kind.Release j s ∷ [] in
+      let works : Works a c = record {
+        same = same_then a b c p.same q.same;
+        more = p.more ++ (q.between ++ last b.seat);
+        seen = q.seen ∙ (append_assoc b.seen q.between (last b.seat) ∙ (ap (λ l. l ++ (q.between ++ last b.seat)) p.seen ∙ append_assoc a.seen p.more (q.between ++ last b.seat)));
+        entries = p.entries ++ j ∷ [];
+        own = q.own
+            ∙ (ap (λ l. l ++ last b.seat) p.own
+            ∙ (ap (λ s. (done ++ called kind.Dispatch j a.seat ∷ []) ++ last s) p.same.seat
+            ∙ (append_assoc done (called kind.Dispatch j a.seat ∷ []) (last a.seat)
+            ∙ sym (calls_more (own_calls a) a.seat p.entries j))));
+      } in
+      record { works = works; first = rw p.first refl }
+
+  -- no entry was begun
+  pub works_from_none : (a b : Token W V) (entry : ℕ) → Looks a b → WorksFrom a b entry
+  unfolding works_look
+  works_from_none a b entry look = record { works = works_look a b look; first = tt }
 
 -- an entry that may be dispatched has a status
 pub ready_is_known : (plan : List (List Request)) (history : List Event) (j : ℕ) → IsReady plan history j → IsSome (status_of history j)
@@ -71,20 +133,3 @@ ready_is_known plan history j ready = rw ready.0 refl
 -- such an entry is one of those that were issued
 pub ready_is_there : (plan : List (List Request)) (history : List Event) (j issued entries : ℕ) → IsReady plan history j → (IsSome (status_of history j) → j < issued) → issued ≤ entries → j < entries
 ready_is_there plan history j issued entries ready known within = let before = known (ready_is_known plan history j ready) in omega arith
-
--- where something became ready, the first entry that is named may be dispatched
-pub first_is_ready : (plan : List (List Request)) (before after : List Event) (woken : Woken) (named : List ℕ) (first : Option ℕ) → TellsReady plan before after woken → named ≡ woken.entries → first ≡ slice_get named 0 → IfSome first (IsReady plan after)
-first_is_ready plan before after woken [] first tells named is = rw is tt
-first_is_ready plan before after woken (j ∷ js) first ([], list, names) named is = absurd (nothing (named ∙ names.0))
-  where
-    nothing : j ∷ js ≡ [] → ⊥
-    nothing e = cc
-first_is_ready plan before after woken (j ∷ js) first (k ∷ ks, list, names) named is = rw is ((list.exactly j).0 (0, omega arith, same k j (take 15 ks) js (sym (named ∙ names.0)))).0
-  where
-    same : (x y : ℕ) (xs ys : List ℕ) → x ∷ xs ≡ y ∷ ys → x ≡ y
-    same x y xs ys e = ap (λ (l : List ℕ). get_or l 0 0) e
-
--- what holds of an answer that is there, from what is known of it
-pub if_some_then : {X : Type 0} (P Q : X → Type 0) (found : Option X) → ((x : X) → P x → Q x) → IfSome found P → IfSome found Q
-if_some_then P Q None then known = tt
-if_some_then P Q (Some x) then known = then x known

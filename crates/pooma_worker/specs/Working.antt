@@ -1,5 +1,5 @@
 -- What a work loop does to its pass, and when it ends.
-use Rattle.std.specs.Prelude.{◌≡◌, ◌++◌, ℕ, List, [], ◌∷◌, flat_map}
+use Rattle.std.specs.Prelude.{◌≡◌, ◌++◌, ℕ, List, [], ◌∷◌, IfSome, flat_map, slice_get}
 use Rattle.pooma_machine.specs.declared.step.EventKind.TheVariants as kind
 use Rattle.pooma_machine.specs.Steps.{IsReady}
 use Rattle.pooma_machine.specs.Values.{Meaning, asks_of}
@@ -22,6 +22,11 @@ pub record Works {W V : Type 0} (old new : Token W V) : Type 0 where
   pub seen : new.seen ≡ old.seen ++ more
   pub entries : List ℕ
   pub own : own_calls new ≡ own_calls old ++ calls_of old.seat entries
+
+-- it does so, and the first of these entries, if there is any, is this one
+pub record WorksFrom {W V : Type 0} (old new : Token W V) (entry : ℕ) : Type 0 where
+  pub works : Works old new
+  pub first : IfSome (slice_get works.entries 0) (λ j. j ≡ entry)
 
 -- after what the pass has seen, some entry may be dispatched
 abbrev pub CanGoOn : {W V O S : Type 0} → Meaning W V O S → Token W V → Type 0

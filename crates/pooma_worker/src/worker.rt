@@ -1,8 +1,7 @@
-ghost use Rattle.std.specs.Prelude.{◌≡◌, ◌<◌, false, IsTrue, IfSome, IfOk, IfErr, length};
-ghost use Rattle.pooma_machine.specs.Values.{IsComplete, asks_of};
-ghost use Rattle.pooma_machine.specs.Causes.{Explains};
+ghost use Rattle.std.specs.Prelude.{◌≡◌, ◌<◌, false, IsTrue, length};
+ghost use Rattle.pooma_machine.specs.Values.{IsComplete};
 ghost use Rattle.pooma_desk.specs.Tokens.{IsLegalFor, plan_of, history_of};
-ghost use Rattle.pooma_worker.specs.Working.{Works, CanGoOn};
+ghost use Rattle.pooma_worker.specs.Working.{Works, WorksFrom, CanGoOn};
 
 use crate::gate::Gate;
 use crate::rest::Rest;
@@ -65,7 +64,8 @@ pub fn work_loop<W: Work, G: Gate, R: Wait>(
     unreachable!()
 }
 
-// Does the entry, then the least that became ready by its release, and so on until none did or another worker had it first.
+// Does the entry, then the least that became ready by its release, and so on until none did. An entry that became ready is
+// dispatched in the turn of the release that made it so.
 fn follow<W: Work, G: Gate, R: Wait>(
     rt: &R,
     alloc: Global,
@@ -76,60 +76,38 @@ fn follow<W: Work, G: Gate, R: Wait>(
 ) -> Worked<W>
     requires desk { pass.from ≡ desk.now }
     requires issued { entry < length (plan_of pass) }
-    ensures works { Works pass result.pass }
+    ensures works { WorksFrom pass result.pass entry }
     ensures short { IsTrue result.short → CanGoOn W.meaning result.pass }
     ensures legal { IsLegalFor W.meaning result.pass }
 {
-    let mut pass = pass;
-    let mut entry = entry;
-    for _ in rt.forever() {
-        let (after, answer) = do_entry(rt, alloc, desk, pass, gate, entry);
-        match answer {
-            Ok(next) => {
-                let Some(next) = next else {
-                    return Worked {
-                        pass: after,
-                        short: false,
-                    };
-                };
-                entry = next;
-            }
-            Err(error) => {
-                return Worked {
-                    pass: after,
-                    short: error == DispatchError::OutOfMemory,
-                };
-            }
+    let (lent, answer) = desk.dispatch(rt, alloc, pass, entry);
+    let mut loan = match answer {
+        Ok(loan) => loan,
+        Err(error) => {
+            return Worked {
+                pass: lent,
+                short: error == DispatchError::OutOfMemory,
+            };
         }
+    };
+    let mut pass = lent;
+    for _ in rt.forever() {
+        gate.before(loan.entry());
+        let (after, answer) = desk.release_and_dispatch(rt, alloc, pass, loan.perform());
+        let Ok(next) = answer else {
+            return Worked {
+                pass: after,
+                short: true,
+            };
+        };
+        let Some(next) = next else {
+            return Worked {
+                pass: after,
+                short: false,
+            };
+        };
         pass = after;
+        loan = next;
     }
     unreachable!()
-}
-
-// Dispatches the entry, does its work and releases it, and answers the least entry that became ready by that.
-fn do_entry<W: Work, G: Gate, R: Wait>(
-    rt: &R,
-    alloc: Global,
-    desk: &Desk<W>,
-    pass: Pass<W>,
-    gate: &G,
-    entry: u32,
-) -> (Pass<W>, Result<Option<u32>, DispatchError>)
-    requires desk { pass.from ≡ desk.now }
-    requires issued { entry < length (plan_of pass) }
-    ensures works { Works pass result.0 }
-    ensures next { IfOk result.1 (λ next. IfSome next (λ j. j < length (plan_of result.0))) }
-    ensures refused { IfErr result.1 (Explains (asks_of W.meaning (plan_of result.0)) (history_of result.0) entry) }
-    ensures legal { IsLegalFor W.meaning result.0 }
-{
-    legal_histories_tell::<W>();
-    let (pass, answer) = desk.dispatch(rt, alloc, pass, entry);
-    match answer {
-        Ok(loan) => {
-            gate.before(entry);
-            let (pass, became) = desk.release(rt, pass, loan.perform());
-            (pass, Ok(became.entries().first().copied()))
-        }
-        Err(error) => (pass, Err(error)),
-    }
 }

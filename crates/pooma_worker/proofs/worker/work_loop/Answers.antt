@@ -14,12 +14,12 @@ follow-worked-requires-clause-issued g c =
 pub returns-then-worked-clause-works : goal.returns-then-worked-clause-works
 returns-then-worked-clause-works g c =
     let looked = works_looked c.args.pass c.loop.pass c.look-looked.result.0 c.loop.invariant.2 c.look-looked.ensures.looks in
-    works_then c.args.pass c.look-looked.result.0 c.follow-worked.result.pass looked c.follow-worked.ensures.works
+    works_then c.args.pass c.look-looked.result.0 c.follow-worked.result.pass looked c.follow-worked.ensures.works.works
 
 pub loop-preserved : goal.loop-preserved
 loop-preserved g c =
     let looked = works_looked c.args.pass c.loop.pass c.look-looked.result.0 c.loop.invariant.2 c.look-looked.ensures.looks in
-    (tt, tt, works_then c.args.pass c.look-looked.result.0 c.follow-worked.result.pass looked c.follow-worked.ensures.works)
+    (tt, tt, works_then c.args.pass c.look-looked.result.0 c.follow-worked.result.pass looked c.follow-worked.ensures.works.works)
 
 pub loop-preserved-in_default : goal.loop-preserved-in_default
 loop-preserved-in_default g c = (tt, tt, works_looked c.args.pass c.loop.pass c.look-looked.result.0 c.loop.invariant.2 c.look-looked.ensures.looks)
