@@ -1,5 +1,5 @@
 //! Numbers and their decimal digits.
-ghost use Rattle.std.specs.Prelude.{◌≡◌, ◌≢◌, ◌^◌, ◌<◌, ◌++◌, [], List, ℤ, pos, length, All, OnOk, OnErr, SomeIff};
+ghost use Rattle.std.specs.Prelude.{◌≡◌, ◌≢◌, ◌^◌, ◌<◌, ◌++◌, [], pos, All, OnOk, OnErr, SomeIff};
 ghost use Rattle.std.specs.Char.{IsAsciiDigit};
 ghost use Rattle.std.specs.Fmt.{signed_decimal};
 ghost use Rattle.pooma_text.specs.Number.{value_of};

@@ -1,5 +1,5 @@
 //! A line as its tokens.
-ghost use Rattle.std.specs.Prelude.{◌≡◌, ◌<◌, ◌≤◌, ◌⊎◌, List, ℕ, length, IfOk, IfErr, IsErrOf, MatchResult};
+ghost use Rattle.std.specs.Prelude.{◌≡◌, ◌<◌, ◌≤◌, ◌⊎◌, List, ℕ, length, IfOk, IsErrOf, MatchResult};
 ghost use Rattle.pooma_text.specs.declared.token.Token.{Token};
 ghost use Rattle.pooma_text.specs.Tokens.{BeginsWith, HasStray, HasTokens};
 
