@@ -1,4 +1,4 @@
-ghost use Rattle.std.specs.Prelude.{◌≡◌, ◌<◌, ℤ, Some, List, length, ◌↔◌, ◌≤ℤ◌, IsTrue, IsSome, IfSome, IsSomeAnd};
+ghost use Rattle.std.specs.Prelude.{◌≡◌, ◌<◌, ℤ, Some, List, length, ◌↔◌, ◌≤ℤ◌, IsSome, IfSome, IsSomeAnd};
 ghost use Rattle.pooma_domain.specs.Axes.{interval_of};
 ghost use Rattle.pooma_domain.specs.Cells.{IsAxis, IsBox};
 

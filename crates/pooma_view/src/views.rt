@@ -1,4 +1,4 @@
-ghost use Rattle.std.specs.Prelude.{◌≡◌, ℕ, ℤ, ◌≤◌, ◌<◌, Some, List, length, slice_get, map, take, [], ◌∷◌, ◌⊎◌, ◌↔◌, IsTrue, IfSome};
+ghost use Rattle.std.specs.Prelude.{◌≡◌, ℤ, ◌≤◌, ◌<◌, Some, List, length, slice_get, map, take, [], ◌∷◌, ◌⊎◌, ◌↔◌, IsTrue, IfSome};
 ghost use Rattle.pooma_domain.specs.Cells.{IsBox, IsIn};
 ghost use Rattle.pooma_domain.specs.Operations.{moved};
 
@@ -18,7 +18,7 @@ pub struct View {
 }
 
 impl Model for View {
-    ghost use Rattle.std.specs.Prelude.{◌≤◌, pos, List, [], ◌∷◌, length, take, slice_index_or};
+    ghost use Rattle.std.specs.Prelude.{◌≤◌, List, [], ◌∷◌, length, take, slice_index_or};
     ghost use Rattle.pooma_domain.specs.Padding.{length-padded, first-padded, second-padded, third-padded};
     ghost use Rattle.pooma_view.specs.Views.{Viewed, no_slot, IsPaddedView};
 
