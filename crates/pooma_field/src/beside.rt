@@ -2,7 +2,7 @@ ghost use Rattle.std.specs.Prelude.{◌≡◌, ◌++◌, true, false, ◌<◌, n
 ghost use Rattle.pooma_domain.specs.Axes.{interval_of};
 ghost use Rattle.pooma_domain.specs.Cells.{axis_length, IsAxis, IsBox};
 ghost use Rattle.pooma_field.specs.ShapeOf.{shape_of};
-ghost use Rattle.pooma_field.specs.Shapes.{IsAround, beyond, slab_axes};
+ghost use Rattle.pooma_field.specs.Shapes.{beyond, slab_axes};
 ghost use Rattle.pooma_field.specs.Slabs.{axis_at, is_deep, slab_at, slabs_of};
 
 use crate::shapes::{Shape, Slab};

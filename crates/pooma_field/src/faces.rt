@@ -23,7 +23,7 @@ pub struct Faces {
 }
 
 impl Model for Faces {
-    ghost use Rattle.std.specs.Prelude.{◌≤◌, List, [], ◌∷◌, length, take, slice_index_or};
+    ghost use Rattle.std.specs.Prelude.{List, [], ◌∷◌, length, take, slice_index_or};
     ghost use Rattle.pooma_field.specs.declared.faces.Ends.{Ends};
 
     ghost Value = { List Ends };

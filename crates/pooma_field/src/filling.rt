@@ -1,5 +1,5 @@
 //! What a slab's cell is made of.
-ghost use Rattle.std.specs.Prelude.{◌≡◌, ℤ, pos, ◌+ℤ◌, ◌-ℤ◌, ◌≤ℤ◌, ◌<◌, Some, List, length, slice_get, slice_index_or, slice_set, Contains};
+ghost use Rattle.std.specs.Prelude.{◌≡◌, ℤ, pos, ◌+ℤ◌, ◌-ℤ◌, ◌<◌, Some, List, length, slice_get, slice_index_or, slice_set, Contains};
 ghost use Rattle.std.specs.Int.{int_max, int_min};
 ghost use Rattle.pooma_domain.specs.Axes.{interval_of};
 ghost use Rattle.pooma_domain.specs.Cells.{IsIn};
