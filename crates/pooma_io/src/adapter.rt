@@ -2,7 +2,7 @@
 //!
 //! As ends they tell no content, since nothing is known of the real streams. What they promise is that each failure is
 //! counted, and that the bytes are those of the reader and of the writer, where these tell theirs.
-ghost use Rattle.std.specs.Prelude.{◌≡◌, ◌<◌, ◌≤◌, Option, None, length, IfOk, OnOk, OnErr};
+ghost use Rattle.std.specs.Prelude.{◌≡◌, ◌<◌, ◌≤◌, None, length, IfOk, OnOk, OnErr};
 ghost use Rattle.std.specs.Io.KnownBytes.{ReadConsumes, WriteAppends};
 ghost use Rattle.pooma_io.specs.Adapter.{read_faults, reader, write_faults, writer};
 ghost use Rattle.pooma_io.specs.Outside.{CountsCall, HasCause, next_count};
