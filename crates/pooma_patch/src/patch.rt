@@ -1,5 +1,5 @@
 //! One block of numbers.
-ghost use Rattle.std.specs.Prelude.{◌≡◌, ◌↔◌, ℕ, ℤ, pos, false, true, List, length, replicate, IsTrue, OnOk, OnErr, IfOk};
+ghost use Rattle.std.specs.Prelude.{◌≡◌, ◌↔◌, ℤ, pos, false, true, List, length, replicate, IsTrue, OnOk, OnErr, IfOk};
 ghost use Rattle.pooma_compress.specs.Kept.{AreEqual};
 ghost use Rattle.pooma_domain.specs.Cells.{cells_of, IsIn};
 ghost use Rattle.pooma_field.specs.Numbered.{number_at, with_number, IsFull};
