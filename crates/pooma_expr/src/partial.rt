@@ -1,5 +1,5 @@
 //! Reductions of which a part is done.
-ghost use Rattle.std.specs.Prelude.{◌≡◌, ◌+◌, ◌^◌, ◌<◌, ◌≤◌, ℕ, ℤ, List, [], ◌∷◌, ◌++◌, length};
+ghost use Rattle.std.specs.Prelude.{◌≡◌, ◌+◌, ◌^◌, ◌<◌, ◌≤◌, ℤ, List, [], ◌∷◌, ◌++◌, length};
 ghost use Rattle.pooma_expr.specs.Reductions.{AllFit, StandsFor, join_all, join_of, result_over};
 
 use crate::reduction::Reduction;
