@@ -7,13 +7,20 @@ use Rattle.std.specs.List.Sorted.{IsPartitionPoint}
 use Rattle.pooma_queue.specs.declared.queue.Asked.{Asked}
 use Rattle.pooma_queue.specs.declared.queue.Mode.TheVariants.{Read}
 use Rattle.pooma_queue.specs.Requests.{IsInOrder, MayGoOn, Waiting, front_of, holds_back, open_part}
-use Rattle.pooma_queue.proofs.Order.{in_order_dropped}
 use Rattle.pooma_machine.specs.declared.step.Request.{Request}
 use Rattle.pooma_machine.specs.declared.step.Event.{Event}
 use Rattle.pooma_machine.specs.Steps.{IsLeastReadyFor, IsReady, IsReadyFor, is_released, status_of}
 use Rattle.pooma_machine.specs.Lines.{IsTied, line}
 use Rattle.pooma_machine.proofs.Listed.{dropped_in, taken_more, there_at}
 use Rattle.pooma_machine.proofs.Waking.{front_in, ready_in_front}
+
+-- the rest of requests in order is in order
+pub in_order_dropped : (requests : List Asked) (n : ℕ) → IsInOrder requests → IsInOrder (drop n requests)
+in_order_dropped requests n order i j d lt within =
+    let l : length (drop n requests) ≡ length requests - n = length-drop n requests in
+    let a : get_or (drop n requests) i d ≡ get_or requests (n + i) d = get_or-drop n requests i d in
+    let b : get_or (drop n requests) j d ≡ get_or requests (n + j) d = get_or-drop n requests j d in
+    rw (a, b) (order (n + i) (n + j) d (omega arith) (omega arith))
 
 -- the front of a queue in order is in order
 pub front_in_order : (requests : List Asked) → IsInOrder requests → IsInOrder (front_of requests)

@@ -1,13 +1,13 @@
 -- Which entries a release made ready: those that it held back over one of its objects, and that nothing holds back now.
-use Rattle.std.proofs.Common.{◌≡◌, ◌≢◌, ◌↔◌, ◌⊎◌, ◌||◌, ◌+◌, ◌<◌, ℕ, suc, Bool, true, false, IsTrue, List, [], ◌∷◌, ◌++◌, length, take, get_or, slice_get, length-take, Contains, All, Option, Some, None, refl, sym, ◌∙◌, ap, subst, arith, inl, inr, nat_lt}
+use Rattle.std.proofs.Common.{◌≡◌, ◌≢◌, ◌↔◌, ◌⊎◌, ◌||◌, ◌+◌, ◌-◌, ◌<◌, ℕ, suc, Bool, true, false, IsTrue, List, [], ◌∷◌, ◌++◌, length, take, drop, get_or, slice_get, length-take, Contains, All, Option, Some, None, refl, sym, ◌∙◌, ap, subst, arith, inl, inr, nat_lt}
 use Rattle.std.proofs.lemmas.Bool.Decides.{eqb_tells, leb_tells}
-use Rattle.std.proofs.lemmas.List.{get_or_past, get_or_default, get_or-take}
+use Rattle.std.proofs.lemmas.List.{get_or_past, get_or_default, get_or-take, get_or-drop, length-drop}
 use Rattle.std.proofs.lemmas.Option.{slice_get-get_or, get_or_from_slice_get}
 use Rattle.std.specs.List.{position_or_len, prefix_len}
 use Rattle.pooma_queue.specs.declared.queue.Mode.{Mode}
 use Rattle.pooma_queue.specs.declared.queue.Mode.TheVariants.{Read, Write}
 use Rattle.pooma_queue.specs.declared.queue.Asked.{Asked}
-use Rattle.pooma_queue.specs.Requests.{Waiting, MayGoOn, conflicts, holds_back, front_of, open_part}
+use Rattle.pooma_queue.specs.Requests.{Waiting, MayGoOn, OnlyLastWrites, conflicts, holds_back, front_of, open_part}
 use Rattle.pooma_machine.specs.declared.step.Request.{Request}
 use Rattle.pooma_machine.specs.declared.step.Event.{Event}
 use Rattle.pooma_machine.specs.declared.step.EventKind.TheVariants as kind
@@ -142,7 +142,6 @@ freed_passed plan history j mode xs i d old now within not_freed noted =
 pub notes_none : (P : ℕ → Type 0) (old : Woken) → ((c : ℕ) → P c → ⊥) → Notes P old old
 notes_none P old none whole up names = (whole, up, names, λ c. (λ h. inl h, λ h. elim h [ inl there ↦ there | inr p ↦ absurd (none c p) ]))
 
--- what conflicts with a read conflicts with all
 -- each entry of a plan whose lists are in form asks in form
 pub form_at : (plan : List (List Request)) (j : ℕ) → All IsRequestList plan → IsRequestList (requests_of plan j)
 form_at plan j form =
@@ -189,30 +188,45 @@ ready_in_front plan history queues front object c mode has tied ready asks = let
         read : slice_get (line queues object) k ≡ Some asked
         read = slice_get-get_or (line queues object) k asked within ∙ ap Some at
 
--- it has what is freed over the object, and no more
-pub freed_over : (plan : List (List Request)) (history : List Event) (queues : List Waiting) (front : List Asked) (j object : ℕ) (mode : Mode) (c : ℕ)
+-- the requests of it that the mode conflicts with have what is freed over the object, and no more
+pub freed_over : (plan : List (List Request)) (history : List Event) (queues : List Waiting) (front held : List Asked) (j object : ℕ) (mode : Mode) (c : ℕ)
     → front ≡ front_of (line queues object) → ((k : ℕ) (asked : Asked) → MayGoOn (line queues object) k asked → Contains front asked)
+    → ((a : Asked) → Contains held a → Contains front a) → ((a : Asked) → Contains front a → holds_back mode a ≡ true → Contains held a)
     → IsTied plan (λ i. is_released (status_of history i)) queues → All IsRequestList plan → AsksFor plan j object mode
-    → FreedAmong plan history j mode front c ↔ IsFreedOver plan history j object c
-freed_over plan history queues front j object mode c part has tied form asks = (to, from)
+    → FreedAmong plan history j mode held c ↔ IsFreedOver plan history j object c
+freed_over plan history queues front held j object mode c part has of_these all tied form asks = (to, from)
   where
-    to : FreedAmong plan history j mode front c → IsFreedOver plan history j object c
+    to : FreedAmong plan history j mode held c → IsFreedOver plan history j object c
     to (a, there, is, f) =
-        let stands = tied.stands object a (front_in (line queues object) a (subst (λ xs. Contains xs a) part there)) in
+        let stands = tied.stands object a (front_in (line queues object) a (subst (λ xs. Contains xs a) part (of_these a there))) in
         subst (λ k. IsFreedOver plan history j object k) is (record {
           later = f.later;
           over = record { one = mode; other = a.mode; asks_one = asks; asks_other = stands.0; conflicting = conflicts_back mode a.mode ∙ f.conflicting };
           ready = f.ready;
         })
 
-    from : IsFreedOver plan history j object c → FreedAmong plan history j mode front c
+    from : IsFreedOver plan history j object c → FreedAmong plan history j mode held c
     from f =
-        let mine : f.over.one ≡ mode = one_mode (requests_of plan j) object f.over.one mode (form_at plan j form) f.over.asks_one asks in (
-          record { entry = c; mode = f.over.other; released = is_released (status_of history c) },
-          ready_in_front plan history queues front object c f.over.other has tied f.ready f.over.asks_other,
-          refl,
-          record { later = f.later; conflicting = conflicts_back f.over.other mode ∙ (ap (λ m. conflicts m f.over.other) (sym mine) ∙ f.over.conflicting); ready = f.ready },
-        )
+        let mine : f.over.one ≡ mode = one_mode (requests_of plan j) object f.over.one mode (form_at plan j form) f.over.asks_one asks in
+        let conflicting : conflicts f.over.other mode ≡ true = conflicts_back f.over.other mode ∙ (ap (λ m. conflicts m f.over.other) (sym mine) ∙ f.over.conflicting) in
+        let unreleased : is_released (status_of history c) ≡ false = ap is_released f.ready.0 in
+        let asked : Asked = record { entry = c; mode = f.over.other; released = is_released (status_of history c) } in
+        let stands : Contains front asked = ready_in_front plan history queues front object c f.over.other has tied f.ready f.over.asks_other in
+        (asked, all asked stands (rw (unreleased, conflicting) refl), refl, record { later = f.later; conflicting = conflicting; ready = f.ready })
+
+-- where only the last of a front may be an open request to write, there is none but that
+pub last_writes : (front : List Asked) (a : Asked) → OnlyLastWrites front → Contains front a → holds_back Read a ≡ true → Contains (drop (length front - 1) front) a
+last_writes front a only (k, h, e) writes =
+    elim (eqb_tells k (length front - 1)) [
+      | inl last ↦
+          let read : get_or (drop (length front - 1) front) 0 a ≡ get_or front (length front - 1 + 0) a = get_or-drop (length front - 1) front 0 a in
+          let at : length front - 1 + 0 ≡ k = omega (arith, last.1) in
+          (0, omega (arith, h, length-drop (length front - 1) front), read ∙ (ap (λ n. get_or front n a) at ∙ e))
+      | inr other ↦
+          let before : k < length front - 1 = omega (arith, other.1, h) in
+          let none = only k a (omega (arith, before, length-take (length front - 1) front)) in
+          absurd (cc (sym none ∙ (ap (holds_back Read) (get_or-take (length front - 1) front k a before ∙ e) ∙ writes)))
+    ]
 
 -- an object that an entry asks for is there
 pub object_there : (plan : List (List Request)) (history : List Event) (statuses : List Status) (queues : List Waiting) (j object : ℕ) (mode : Mode) → IsKept plan history statuses queues

@@ -1,5 +1,5 @@
 ghost use Rattle.std.specs.Prelude.{◌≡◌, ◌+◌, ◌<◌, ◌≤◌, ◌++◌, ℕ, [], All, Contains, IfOk, OnOk, IsOk, length};
-ghost use Rattle.pooma_queue.specs.Requests.{MayGoOn, front_of};
+ghost use Rattle.pooma_queue.specs.Requests.{MayGoOn, OnlyLastWrites, front_of};
 ghost use Rattle.pooma_queue.specs.declared.queue.Asked.{Asked};
 ghost use Rattle.pooma_machine.specs.Steps.{IsRequestList};
 ghost use Rattle.pooma_machine.specs.Lines.{line, room_at, asked_at, line_after, lesser, held_by};
@@ -117,11 +117,12 @@ impl Lines {
         found
     }
 
-    /// The front of an object's queue, in which what may go on stands.
+    /// The front of an object's queue, in which what may go on stands. Only its last may be an open request to write.
     pub(crate) fn front(&self, object: u32) -> &[Asked]
         requires { object < length self.now }
         ensures requests { result.now ≡ front_of (line self.now object) }
         ensures may_go_on { (k : ℕ) (asked : Asked) → MayGoOn (line self.now object) k asked → Contains result.now asked }
+        ensures last { OnlyLastWrites result.now }
     {
         self.queues[object as usize].front()
     }

@@ -1,9 +1,9 @@
-ghost use Rattle.std.specs.Prelude.{◌≡◌, ◌↔◌, ◌⊎◌, ◌+◌, ◌-◌, ◌*◌, ◌^◌, ◌<◌, ◌≤◌, ℕ, List, [], ◌∷◌, ◌++◌, Some, None, slice_get, All, Contains, IfOk, OnOk, OnErr, IsOk, IfErr, IsTrue, IfSome, MatchOption, length, vec_len, vec_capacity};
+ghost use Rattle.std.specs.Prelude.{◌≡◌, ◌↔◌, ◌⊎◌, ◌+◌, ◌-◌, ◌*◌, ◌^◌, ◌<◌, ◌≤◌, ℕ, List, [], ◌∷◌, ◌++◌, Some, None, slice_get, All, Contains, IfOk, OnOk, OnErr, IsOk, IfErr, IsTrue, true, IfSome, MatchOption, length, vec_len, vec_capacity};
 ghost use Rattle.std.specs.Arc.{arc_value};
 ghost use Rattle.pooma_machine.specs.Steps.{IsRequestList, Conflict, IsLeastUnreleased, IsLeastReady, IsLeastReadyFor, IsReady, IsReadyFor, IsHeldBack, IsDispatchedAt, IsLegal, AsksFor, is_out, status_of, event_of};
 ghost use Rattle.pooma_machine.specs.Values.{asks_of, IsComplete};
 ghost use Rattle.pooma_machine.specs.Kept.{Schedule, first_open};
-ghost use Rattle.pooma_queue.specs.Requests.{IsInOrder};
+ghost use Rattle.pooma_queue.specs.Requests.{IsInOrder, OnlyLastWrites, holds_back};
 ghost use Rattle.pooma_queue.specs.declared.queue.Asked.{Asked};
 ghost use Rattle.pooma_machine.specs.Became.{BecameReady, IsListOf, IsFreed, IsFreedBy, IsFreedOver, Names, Notes, TellsReady};
 
@@ -261,7 +261,7 @@ impl<W: Work> Table<W> {
         requires { AsksFor (asks_of W.meaning self.now.plan) j request.object request.mode }
         ensures { Notes (IsFreedOver (asks_of W.meaning self.now.plan) self.now.history j request.object) became.old became.new }
     {
-        for asked in self.lines.front(request.object) {
+        for asked in held_back(self.lines.front(request.object), request.mode) {
             if self.is_freed(j, request.mode, *asked) {
                 became.note(asked.entry);
             }
@@ -293,6 +293,19 @@ impl<W: Work> Table<W> {
             entry: j,
             seat,
         });
+    }
+}
+
+// Those of a front that a request in this mode may have held back. One to read held back only those to write, and of these
+// the last alone may be open, so that releases of many reads do not walk over one another.
+fn held_back(front: &[Asked], mode: Mode) -> &[Asked]
+    requires { OnlyLastWrites front.now }
+    ensures of_these { (asked : Asked) → Contains result.now asked → Contains front.now asked }
+    ensures all { (asked : Asked) → Contains front.now asked → holds_back mode asked ≡ true → Contains result.now asked }
+{
+    match mode {
+        Mode::Read => &front[front.len().saturating_sub(1)..],
+        Mode::Write => front,
     }
 }
 
