@@ -8,7 +8,7 @@ use Rattle.pooma_domain.specs.Operations.{moved}
 use Rattle.pooma_domain.specs.declared.strides.Strided.{Strided}
 use Rattle.pooma_domain.proofs.Striding.{fits_between, part_fits}
 use Rattle.pooma_view.specs.Slots.{positions_of, cell_named, left_over, first_named, from_zero, IsRestricted, IsWithinPlaces}
-use Rattle.pooma_view.specs.Restricted.{IsStrided, restricted_slot, restricted_slots, strided_or, strided_or_not, where_strided}
+use Rattle.pooma_view.specs.Restricted.{IsStrided, restricted_slot, restricted_slots, strided_or_not, where_strided}
 use Rattle.pooma_view.specs.declared.slots.Slot.{Slot}
 use Rattle.pooma_view.specs.declared.slots.Slot.TheVariants.{Fixed, Along}
 use Rattle.pooma_view.proofs.Parts.{within_places, restricted_places, restricted_cell}

@@ -1,11 +1,11 @@
 -- The views that the expression of a stencil on a view reads, offset by offset.
-use Rattle.std.proofs.Common.{◌≡◌, ◌↔◌, ℤ, refl, sym, subst, List, [], ◌∷◌}
+use Rattle.std.proofs.Common.{◌↔◌, ℤ, refl, sym, subst, List, [], ◌∷◌}
 use Rattle.std.specs.Prelude.{map, All}
 use Rattle.std.proofs.lemmas.List.Elements.{All-nil, All-cons, All-head, All-tail, All-map, All-weaker}
 use Rattle.pooma_domain.specs.Cells.{Interval, IsBox, IsIn}
 use Rattle.pooma_domain.specs.Operations.{moved, shifted, reaches}
 use Rattle.pooma_view.specs.Restricted.{restricted}
-use Rattle.pooma_view.specs.Slots.{positions_of, cell_named, first_named}
+use Rattle.pooma_view.specs.Slots.{positions_of, cell_named}
 use Rattle.pooma_view.specs.Views.{Viewed}
 use Rattle.pooma_view.proofs.Parts.{first_within}
 use Rattle.pooma_expr.specs.Trees as trees

@@ -1,5 +1,5 @@
 //! How far a stencil reaches, and the positions that this leaves it.
-ghost use Rattle.std.specs.Prelude.{◌≡◌, ◌<◌, ◌≤◌, ◌↔◌, length, All, IsTrue, IsSome, IfSome};
+ghost use Rattle.std.specs.Prelude.{◌≡◌, ◌<◌, ◌↔◌, length, All, IsTrue, IsSome, IfSome};
 ghost use Rattle.pooma_domain.specs.Cells.{IsIn, IsOrdered};
 ghost use Rattle.pooma_domain.specs.Operations.{moved, reaches};
 ghost use Rattle.pooma_stencil.specs.Stencils.{IsExtent, shrunk};
