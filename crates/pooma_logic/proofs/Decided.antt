@@ -2,11 +2,12 @@
 use Rattle.std.proofs.Common.{◌≡◌, inl, inr, ⊎_elim, ℕ, zero, suc, ◌<◌, ◌≤◌, Bool, true, false, true≢false, ℤ, ◌≤ℤ◌, ◌<ℤ◌, List, [], ◌∷◌, length, Option, None, Some, refl, sym, subst, arith}
 use Rattle.std.specs.Prelude.{All, IfSome, IsTrue, Contains, slice_index_or}
 use Rattle.std.specs.List.{AllPairs, AllZip}
-use Rattle.std.proofs.lemmas.Bool.{cases_lt}
+use Rattle.std.proofs.lemmas.Bool.{cases_eq, cases_lt}
 use Rattle.std.proofs.lemmas.Int.{by_lt_z, ints}
 use Rattle.std.proofs.lemmas.List.Elements.{All-cons, All-head, All-tail}
 use Rattle.std.proofs.lemmas.List.Kept.{AllPairs-cons}
 use Rattle.pooma_logic.specs.Decided.{Or_not}
+use Rattle.pooma_logic.proofs.Pairs.{pairs_first, pairs_rest}
 
 pub as_or_not : {P Q : Type 0} → (P → Q) → (Q → P) → Or_not P → Or_not Q
 as_or_not forth back (inl p) = inl (forth p)
@@ -35,6 +36,9 @@ at_most_ℤ_or_not a b = by_lt_z b a (λ above. inr (λ h. omega (arith, ints)))
 
 pub below_ℤ_or_not : (a b : ℤ) → Or_not (a <ℤ b)
 below_ℤ_or_not a b = by_lt_z a b (λ below. inl below) (λ within. inr (λ h. omega (arith, ints)))
+
+pub same_ℕ_or_not : (m n : ℕ) → Or_not (m ≡ n)
+same_ℕ_or_not m n = ⊎_elim (λ same. inl same) (λ differ. inr differ) (cases_eq m n)
 
 pub same_ℤ_or_not : (a b : ℤ) → Or_not (a ≡ b)
 same_ℤ_or_not a b =
@@ -71,16 +75,10 @@ zip_or_not R tell (x ∷ xs) [] = inr (λ h. h)
 zip_or_not R tell (x ∷ xs) (y ∷ ys) = both_or_not (tell x y) (zip_or_not R tell xs ys)
 
 module _ {X : Type 0} (R : X → X → Type 0) where
-  first_of_pairs : (x : X) (xs : List X) → AllPairs R (x ∷ xs) → All (R x) xs
-  first_of_pairs x xs pairs k d within = pairs 0 (suc k) d (omega arith) (omega arith)
-
-  rest_of_pairs : (x : X) (xs : List X) → AllPairs R (x ∷ xs) → AllPairs R xs
-  rest_of_pairs x xs pairs i j d before within = pairs (suc i) (suc j) d (omega arith) (omega arith)
-
   pub pairs_or_not : ((a b : X) → Or_not (R a b)) → (xs : List X) → Or_not (AllPairs R xs)
   pairs_or_not tell [] = inl (λ i j d before within. absurd (omega arith))
   pairs_or_not tell (x ∷ xs) =
-      as_or_not (λ h. AllPairs-cons R x xs h.0 h.1) (λ pairs. (first_of_pairs x xs pairs, rest_of_pairs x xs pairs))
+      as_or_not (λ h. AllPairs-cons R x xs h.0 h.1) (λ pairs. (pairs_first R x xs pairs, pairs_rest R x xs pairs))
       (both_or_not (all_or_not (R x) (tell x) xs) (pairs_or_not tell xs))
 
 module _ {X : Type 0} (P : X → Type 0) where
@@ -99,3 +97,7 @@ module _ {X : Type 0} (P : X → Type 0) where
       (λ found. (found.0, later_one x found.0 xs found.1.0 fails found.1.1 found.1.2 found.2, found.2))
       (some_one_or_not tell xs))
       (tell x)
+
+pub contains_or_not : {X : Type 0} → ((a b : X) → Or_not (a ≡ b)) → (xs : List X) (x : X) → Or_not (Contains xs x)
+contains_or_not same xs x =
+    as_or_not (λ found. subst (Contains xs) found.2 found.1) (λ there. (x, there, refl)) (some_one_or_not (λ y. y ≡ x) (λ y. same y x) xs)
