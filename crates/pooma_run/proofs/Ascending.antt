@@ -1,12 +1,17 @@
 -- Ascending lists of which the first places are not looked at: an element taken off, and one put in.
-use Rattle.std.proofs.Common.{◌≡◌, ◌≢◌, ◌⊎◌, ◌↔◌, ◌+◌, ◌<◌, ◌≤◌, ℕ, zero, suc, List, [], ◌∷◌, length, drop, set, get_or, Contains, refl, sym, ◌∙◌, ap, subst, arith, inl, inr, ◌-◌, length-drop}
+use Rattle.std.proofs.Common.{◌≡◌, ◌≢◌, ◌⊎◌, ◌↔◌, ◌+◌, ◌<◌, ◌≤◌, ℕ, zero, suc, List, [], ◌∷◌, length, drop, set, get_or, Contains, refl, sym, ◌∙◌, ap, subst, arith, inl, inr, ◌-◌, length-drop, Result, Err}
 use Rattle.std.proofs.lemmas.List.{get_or_default, get_or-drop}
 use Rattle.std.proofs.lemmas.List.Edits.{length-remove}
+use Rattle.std.proofs.lemmas.List.Elements.{Contains-get_or}
+use Rattle.std.proofs.lemmas.List.Kept.{AllPairs-cons}
 use Rattle.std.proofs.lemmas.List.Quantifiers.{all_pairs_remove}
+use Rattle.std.proofs.lemmas.List.Sorted.{Contains-permutation, IsPermutation-insert, IsPermutation-sym, searched}
 use Rattle.std.specs.List.{insert, remove}
-use Rattle.pooma_machine.specs.Became.{IsAscending, with_entry}
-use Rattle.pooma_machine.proofs.Listed.{contains_cases, contains_first, contains_rest}
-use Rattle.pooma_machine.proofs.Named.{ascending_first, ascending_rest, with_has, has_with}
+use Rattle.std.specs.List.Sorted.{IsBinarySearchResult}
+use Rattle.std.specs.Ordering.{nat_cmp}
+use Rattle.pooma_logic.proofs.Ascending.{ascending_first, ascending_rest, ascending_rises}
+use Rattle.pooma_logic.proofs.Elements.{contains_cases, contains_first, contains_rest}
+use Rattle.pooma_machine.specs.Became.{IsAscending}
 
 drop_none : (xs : List ℕ) → drop 0 xs ≡ xs
 drop_none [] = refl
@@ -52,15 +57,10 @@ removed_has (x ∷ xs) (suc p) up within j h =
     elim (contains_cases x (remove xs p) j h) [
       | inl same ↦ (
         subst (Contains (x ∷ xs)) (sym same) (contains_first x xs),
-        λ later. let above : x < get_or xs p 0 = ascending_first x xs (get_or xs p 0) up (there xs p (omega arith)) in omega arith,
+        λ later. let above : x < get_or xs p 0 = ascending_first x xs (get_or xs p 0) up (Contains-get_or xs p 0 (omega arith)) in omega arith,
       )
       | inr more ↦ let rest = removed_has xs p (ascending_rest x xs up) (omega arith) j more in (contains_rest x xs j rest.0, rest.1)
     ]
-  where
-    there : (xs : List ℕ) (p : ℕ) → p < length xs → Contains xs (get_or xs p 0)
-    there [] p h = absurd (omega arith)
-    there (x ∷ xs) zero h = contains_first x xs
-    there (x ∷ xs) (suc p) h = contains_rest x xs (get_or xs p 0) (there xs p (omega arith))
 
 pub has_removed : (xs : List ℕ) (p : ℕ) → p < length xs → (j : ℕ) → Contains xs j → j ≢ get_or xs p 0 → Contains (remove xs p) j
 has_removed [] p within j h ne = absurd (omega arith)
@@ -78,8 +78,44 @@ taken_off xs ys p e is first up within j = (
   λ h. rw is (has_removed xs p within j h.0 (λ same. h.1 (same ∙ sym first))),
 )
 
-pub put_in : (xs ys : List ℕ) (e : ℕ) → ys ≡ with_entry e xs → (j : ℕ) → Contains ys j ↔ (Contains xs j ⊎ (j ≡ e))
-put_in xs ys e is j = (λ h. with_has e xs j (rw is at h), λ h. rw is (has_with e xs j h))
+-- with an element put in, a list has it and the others
+inserted_has : (xs : List ℕ) (p e j : ℕ) → Contains (insert xs p e) j ↔ (Contains xs j ⊎ (j ≡ e))
+inserted_has xs p e j = (
+  λ h. elim (contains_cases e xs j (Contains-permutation (insert xs p e) (e ∷ xs) j (IsPermutation-sym (e ∷ xs) (insert xs p e) (IsPermutation-insert xs p e)) h)) [
+    | inl same ↦ inr same
+    | inr there ↦ inl there
+  ],
+  λ either. Contains-permutation (e ∷ xs) (insert xs p e) j (IsPermutation-insert xs p e) (elim either [
+    | inl there ↦ contains_rest e xs j there
+    | inr same ↦ subst (Contains (e ∷ xs)) (sym same) (contains_first e xs)
+  ]),
+)
+
+pub put_in : (xs ys : List ℕ) (p e : ℕ) → ys ≡ insert xs p e → (j : ℕ) → Contains ys j ↔ (Contains xs j ⊎ (j ≡ e))
+put_in xs ys p e is j = subst (λ l. Contains l j ↔ (Contains xs j ⊎ (j ≡ e))) (sym is) (inserted_has xs p e j)
+
+-- and where it is put behind the lesser ones and before the greater ones, the list ascends
+inserted_ascends : (xs : List ℕ) (p e : ℕ) → IsAscending xs → p ≤ length xs → ((k : ℕ) → k < p → get_or xs k 0 < e) → ((k : ℕ) → p ≤ k → k < length xs → e < get_or xs k 0)
+    → IsAscending (insert xs p e)
+inserted_ascends [] zero e up within low high = AllPairs-cons (λ m n. m < n) e [] (λ k d h. absurd (omega arith)) up
+inserted_ascends [] (suc p) e up within low high = absurd (omega arith)
+inserted_ascends (x ∷ xs) zero e up within low high =
+    AllPairs-cons (λ m n. m < n) e (x ∷ xs)
+    (λ k d h. let same : get_or (x ∷ xs) k d ≡ get_or (x ∷ xs) k 0 = get_or_default (x ∷ xs) k d 0 h in let above : e < get_or (x ∷ xs) k 0 = high k (omega arith) h in omega arith) up
+inserted_ascends (x ∷ xs) (suc p) e up within low high =
+    AllPairs-cons (λ m n. m < n) x (insert xs p e)
+    (λ k d h. above (get_or (insert xs p e) k d) ((inserted_has xs p e (get_or (insert xs p e) k d)).0 (Contains-get_or (insert xs p e) k d h)))
+    (inserted_ascends xs p e (ascending_rest x xs up) (omega arith) (λ k lt. low (suc k) (omega arith)) (λ k le h. high (suc k) (omega arith) (omega arith)))
+  where
+    above : (j : ℕ) → Contains xs j ⊎ (j ≡ e) → x < j
+    above j (inl there) = ascending_first x xs j up there
+    above j (inr same) = let first : x < e = low 0 (omega arith) in omega (arith, same)
+
+-- which is the place that a search for it gives, where it is not there
+pub searched_place : (xs : List ℕ) (p e : ℕ) (found : Result ℕ ℕ) → IsAscending xs → IsBinarySearchResult (λ k. nat_cmp k e) xs found → found ≡ Err p → IsAscending (insert xs p e)
+searched_place xs p e found up search is =
+    let at = searched xs e (Err p) (subst (IsBinarySearchResult (λ k. nat_cmp k e) xs) is search) (ascending_rises xs up) in
+    inserted_ascends xs p e up at.0 at.1 at.2
 
 -- a place among those that are looked at is a place of the list
 pub place_within : (from p : ℕ) (items seen : List ℕ) → drop from items ≡ seen → p < length seen → from + p < length items
@@ -105,10 +141,8 @@ one_off from p q items left at h is up =
     let within : from ≤ length items = omega arith in
     (omega arith, rw (is, drop_remove from p q items at within) (all_pairs_remove (λ a b. a < b) (drop from items) p there up))
 
-pub front_put : (low from : ℕ) (items seen : List ℕ) (e : ℕ) → from ≡ low + 1 → from ≤ length items → drop from items ≡ seen → with_entry e seen ≡ insert seen 0 e
-    → drop low (set items low e) ≡ with_entry e seen
-front_put low from items seen e at h is put = drop_write low from items e at h ∙ (ap (λ list. insert list 0 e) is ∙ sym put)
+pub front_put : (low from : ℕ) (items seen : List ℕ) (e : ℕ) → from ≡ low + 1 → from ≤ length items → drop from items ≡ seen → drop low (set items low e) ≡ insert seen 0 e
+front_put low from items seen e at h is = drop_write low from items e at h ∙ ap (λ list. insert list 0 e) is
 
-pub middle_put : (from p q : ℕ) (items seen : List ℕ) (e : ℕ) → q ≡ from + p → from ≤ length items → drop from items ≡ seen → with_entry e seen ≡ insert seen p e
-    → drop from (insert items q e) ≡ with_entry e seen
-middle_put from p q items seen e at h is put = drop_insert from p q items e at h ∙ (ap (λ list. insert list p e) is ∙ sym put)
+pub middle_put : (from p q : ℕ) (items seen : List ℕ) (e : ℕ) → q ≡ from + p → from ≤ length items → drop from items ≡ seen → drop from (insert items q e) ≡ insert seen p e
+middle_put from p q items seen e at h is = drop_insert from p q items e at h ∙ ap (λ list. insert list p e) is

@@ -2,13 +2,15 @@
 use Rattle.std.proofs.Common.{◌≡◌, ◌⊎◌, ◌↔◌, ◌+◌, ◌<◌, ◌≤◌, ℕ, false, List, [], ◌∷◌, ◌++◌, refl, length, take, get_or, Contains, sym, ◌∙◌, ap, subst, arith, inl, inr, nat_lt, min, length-take}
 use Rattle.std.proofs.lemmas.Bool.Decides.{leb_tells, eqb_tells}
 use Rattle.std.proofs.lemmas.List.{take_all, get_or-take, get_or_default, take_more}
+use Rattle.std.proofs.lemmas.List.Elements.{Contains-get_or}
 use Rattle.std.proofs.lemmas.List.Quantifiers.{all_pairs_push}
-use Rattle.pooma_machine.proofs.Listed.{there_at}
+use Rattle.pooma_logic.proofs.Decided.{contains_or_not, same_ℕ_or_not}
+use Rattle.pooma_logic.proofs.Elements.{contains_none}
 use Rattle.pooma_machine.specs.declared.step.Request.{Request}
 use Rattle.pooma_machine.specs.declared.step.Event.{Event}
 use Rattle.pooma_machine.specs.Steps.{Conflict, IsReady, IsLeastReady, IsReadyFor, requests_of}
 use Rattle.pooma_machine.specs.Became.{IsAscending, IsListOf}
-use Rattle.pooma_run.proofs.Lists.{behind_cases, behind_last, behind_others, contains_none, contains_or_not}
+use Rattle.pooma_run.proofs.Lists.{behind_cases, behind_last, behind_others}
 
 -- each of these may be run
 abbrev pub AreReady : List (List Request) → List Event → List ℕ → Type 0
@@ -70,7 +72,7 @@ module _ (plan : List (List Request)) (history : List Event) where
           ascending = up;
           exactly = λ j. (
             stays j,
-            λ ready. elim (contains_or_not old j) [
+            λ ready. elim (contains_or_not same_ℕ_or_not old j) [
               | inl before ↦ kept j before
               | inr not ↦ put j (rw (take_all k named end, names, take_all 16 whole short) ((list_of.exactly j).1 (ready, not)))
             ],
@@ -107,7 +109,7 @@ module _ (holds : ℕ → Type 0) where
   pub next_below : (from entry : ℕ) (list more : List ℕ) → HasAllBelow holds from list → from ≤ entry → holds entry → ((i : ℕ) → from ≤ i → i < entry → holds i → ⊥)
       → more ≡ list ++ entry ∷ [] → HasAllBelow holds (entry + 1) more
   next_below from entry list more all low here before is = record {
-    up = rw is (all_pairs_push (λ a b. a < b) list entry all.up (λ k d h. let lt : get_or list k d < from = (all.stays (get_or list k d) (there_at list k d h)).1 in omega arith));
+    up = rw is (all_pairs_push (λ a b. a < b) list entry all.up (λ k d h. let lt : get_or list k d < from = (all.stays (get_or list k d) (Contains-get_or list k d h)).1 in omega arith));
     stays = λ j there. elim (behind_cases list entry j (rw is at there)) [
       | inl old ↦ let lt : j < from = (all.stays j old).1 in ((all.stays j old).0, omega arith)
       | inr same ↦ (subst holds (sym same) here, omega (arith, same))
@@ -157,7 +159,7 @@ module _ (plan : List (List Request)) (history : List Event) (old : List ℕ) wh
   pub all_over : (requests : List Request) (entry k : ℕ) (list : List ℕ) → requests ≡ requests_of plan entry → length requests ≤ k → IsAscending list
       → ((j : ℕ) → IsReady plan history j → (Contains old j → ⊥) → Conflict plan entry j)
       → HasOver plan history old (take k requests) list → IsListOf (IsReady plan history) list
-  all_over requests entry k list are end up freed has = record { ascending = up; exactly = λ j. (has.stays j, λ ready. by j ready (contains_or_not old j)) }
+  all_over requests entry k list are end up freed has = record { ascending = up; exactly = λ j. (has.stays j, λ ready. by j ready (contains_or_not same_ℕ_or_not old j)) }
     where
       by : (j : ℕ) → IsReady plan history j → Contains old j ⊎ (Contains old j → ⊥) → Contains list j
       by j ready (inl there) = has.had j there

@@ -3,6 +3,7 @@ use Rattle.std.proofs.Common.{◌≡◌, ◌≢◌, ◌+◌, ◌<◌, ℕ, true,
 use Rattle.std.proofs.lemmas.Bool.Decides.{eqb_tells}
 use Rattle.std.proofs.lemmas.List.{map-append}
 use Rattle.std.proofs.lemmas.List.Elements.{All-append, filter-append}
+use Rattle.pooma_logic.proofs.Elements.{contains_none}
 use Rattle.pooma_machine.specs.declared.step.Request.{Request}
 use Rattle.pooma_machine.specs.declared.step.Event.{Event}
 use Rattle.pooma_machine.specs.declared.step.EventKind.TheVariants as kind
@@ -11,7 +12,7 @@ use Rattle.pooma_machine.specs.Steps.{IsReady, status_of, is_out, is_released, e
 use Rattle.pooma_run.specs.Questions.{Question, AreAsked, Follows, answered, all_answered}
 use Rattle.pooma_run.specs.Windows.{dispatched, is_dispatch}
 use Rattle.pooma_run.specs.Running.{HasRun, lent, ran}
-use Rattle.pooma_run.proofs.Lists.{contains_none, behind_cases, behind_others, behind_last, each_behind}
+use Rattle.pooma_run.proofs.Lists.{behind_cases, behind_others, behind_last, each_behind}
 use Rattle.pooma_run.proofs.Statuses.{status_own, status_other}
 use Rattle.pooma_run.proofs.Runs.{known_is_there, ran_own, ran_other}
 

@@ -1,24 +1,16 @@
 -- Lists with one element more.
-use Rattle.std.proofs.Common.{◌≡◌, ◌⊎◌, ℕ, zero, suc, List, [], ◌∷◌, ◌++◌, take, Some, slice_get, Contains, refl, sym, subst, arith, inl, inr, All, map, ap, ◌+◌, add-one}
-use Rattle.std.proofs.lemmas.Bool.Decides.{eqb_tells}
-use Rattle.std.proofs.lemmas.List.Elements.{Contains-append_left, Contains-append_right, Contains-append_cases}
-
-pub contains_none : {X : Type 0} (y : X) → Contains [] y → ⊥
-contains_none y (k, h, e) = absurd (omega arith)
-
-contains_one : {X : Type 0} (x y : X) → Contains (x ∷ []) y → y ≡ x
-contains_one x y (zero, h, e) = sym e
-contains_one x y (suc k, h, e) = absurd (omega arith)
+use Rattle.std.proofs.Common.{◌≡◌, ◌⊎◌, ℕ, zero, suc, List, [], ◌∷◌, ◌++◌, take, Some, slice_get, Contains, sym, subst, arith, inl, inr, All, map, ap, ◌+◌, add-one}
+use Rattle.std.proofs.lemmas.List.Elements.{Contains-append_left, Contains-push, Contains-push_cases}
 
 -- it has the elements of the list, and the last one
 pub behind_cases : {X : Type 0} (xs : List X) (x y : X) → Contains (xs ++ x ∷ []) y → Contains xs y ⊎ (y ≡ x)
-behind_cases xs x y h = elim (Contains-append_cases xs (x ∷ []) y h) [ inl there ↦ inl there | inr last ↦ inr (contains_one x y last) ]
+behind_cases xs x y h = elim (Contains-push_cases xs x y h) [ inl there ↦ inl there | inr last ↦ inr (sym last) ]
 
 pub behind_others : {X : Type 0} (xs : List X) (x y : X) → Contains xs y → Contains (xs ++ x ∷ []) y
 behind_others xs x y h = Contains-append_left xs (x ∷ []) y h
 
 pub behind_last : {X : Type 0} (xs : List X) (x : X) → Contains (xs ++ x ∷ []) x
-behind_last xs x = Contains-append_right xs (x ∷ []) x (0, omega arith, refl)
+behind_last xs x = Contains-push xs x
 
 -- where each element has what it has to after those before it, so it is with one element more
 pub each_behind : {X : Type 0} (P : List X → X → Type 0) (xs : List X) (x : X)
@@ -33,22 +25,6 @@ each_behind P (z ∷ xs) x each last (suc k) y at = each_behind (λ before. P (z
 pub all_among : {X Y : Type 0} (P : Y → Type 0) (f : X → Y) (xs : List X) (x : X) (ys : List X) → All P (map f (xs ++ x ∷ ys)) → P (f x)
 all_among P f [] x ys each = each 0 (f x) (omega arith)
 all_among P f (z ∷ xs) x ys each = all_among P f xs x ys (λ k d within. each (suc k) d (omega arith))
-
-pub contains_or_not : (xs : List ℕ) (y : ℕ) → Contains xs y ⊎ (Contains xs y → ⊥)
-contains_or_not [] y = inr (contains_none y)
-contains_or_not (x ∷ xs) y =
-    elim (eqb_tells x y) [
-      | inl same ↦ inl (0, omega arith, same.1)
-      | inr other ↦
-          elim (contains_or_not xs y) [
-            | inl there ↦ inl (suc there.0, omega (arith, there.1), there.2)
-            | inr not ↦ inr (λ h. by h other.1 not)
-          ]
-    ]
-  where
-    by : Contains (x ∷ xs) y → (x ≡ y → ⊥) → (Contains xs y → ⊥) → ⊥
-    by (zero, h, e) other not = other e
-    by (suc k, h, e) other not = not (k, omega arith, e)
 
 -- the front with one place more
 take_further : {X : Type 0} (xs : List X) (k : ℕ) (x : X) → slice_get xs k ≡ Some x → take (suc k) xs ≡ take k xs ++ x ∷ []

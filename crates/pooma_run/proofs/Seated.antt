@@ -1,10 +1,12 @@
 -- How the passes of workers are dealt, kept by their loops and gathered, and what the one that is gathered has seen.
-use Rattle.std.proofs.Common.{◌≡◌, ◌<◌, ◌≤◌, ◌+◌, ◌-◌, ◌⊎◌, inl, inr, ℕ, zero, suc, true, List, [], ◌∷◌, ◌++◌, All, Option, None, Some, length, drop, take, get_or, Contains, refl, sym, ap, ◌∙◌, subst, arith, append-nil}
+use Rattle.std.proofs.Common.{◌≡◌, ◌==◌, ◌<◌, ◌≤◌, ◌+◌, ◌-◌, ◌⊎◌, inl, inr, ℕ, zero, suc, true, List, [], ◌∷◌, ◌++◌, All, Option, None, Some, length, drop, take, get_or, Contains, refl, sym, ap, ◌∙◌, subst, arith, append-nil, eq-eqb}
 use Rattle.std.specs.List.{range_with_len, AllZip}
 use Rattle.std.proofs.lemmas.Bool.{cases_lt}
-use Rattle.std.proofs.lemmas.List.{get_or_default, length-append, drop_all, take_all}
+use Rattle.std.proofs.lemmas.List.{length-append, drop_all, take_all}
 use Rattle.std.proofs.lemmas.List.FromFn.{length-range_with_len}
-use Rattle.std.proofs.lemmas.List.Elements.{Contains-append_cases}
+use Rattle.std.proofs.lemmas.List.Elements.{Contains-append_cases, Contains-get_or}
+use Rattle.pooma_logic.proofs.Elements.{contains_first, contains_image, contains_none, contains_rest}
+use Rattle.pooma_logic.proofs.Tested.{any_of_both, any_of_first, any_of_left, any_of_right, contains_kept, kept_passes}
 use Rattle.pooma_machine.specs.declared.step.Event.{Event}
 use Rattle.pooma_machine.specs.Steps.{IsLegal}
 use Rattle.pooma_machine.specs.Values.{Account, Meaning, IsComplete, asks_of}
@@ -14,14 +16,12 @@ use Rattle.pooma_desk.specs.declared.sight.Noted.{Noted}
 use Rattle.pooma_desk.specs.Rule.{first_of}
 use Rattle.pooma_desk.specs.Seen.{is_one_of, events_of, works_of}
 use Rattle.pooma_desk.specs.Tokens.{Started, Token, GoesOn, own_calls, seats_of, plan_of, history_of, keeping, newly}
-use Rattle.pooma_desk.proofs.Fronts.{nothing_there, contains_first, contains_rest, one_of_both, one_of_left, one_of_right, one_of_first}
-use Rattle.pooma_desk.proofs.Calls.{under_there, there_under, noted_there}
 use Rattle.pooma_worker.specs.Working.{Works, calls_of}
 use Rattle.pooma_run.specs.Workers.{AsksNothing, IsWorkers, HasPass, IsSeated, HasWorker, StaysSeated, IsShared}
 
 -- a loop adds no request
 calls_without : {W : Type 0} (seat : ℕ) (entries : List ℕ) (n : Noted W) → Contains (calls_of seat entries) n → n.work ≡ None
-calls_without {W} seat [] n there = absurd (nothing_there n there)
+calls_without {W} seat [] n there = absurd (contains_none n there)
 calls_without {W} seat (j ∷ js) n (zero, h, e) = ap (λ (z : Noted W). z.work) (sym e)
 calls_without {W} seat (j ∷ js) n (suc zero, h, e) = ap (λ (z : Noted W). z.work) (sym e)
 calls_without {W} seat (j ∷ js) n (suc (suc k), h, e) = calls_without seat js n (k, omega arith, e)
@@ -41,8 +41,8 @@ works_without (n ∷ seen) none = rw (none n (contains_first n seen)) (works_wit
 -- the seats of all events, those at the start and those since
 pub seats_below : {W : Type 0} (before : List Event) (seen : List (Noted W)) (seats : ℕ) → All (λ (e : Event). e.seat < seats) before → ((n : Noted W) → Contains seen n → n.event.seat < seats) → All (λ (e : Event). e.seat < seats) (before ++ events_of seen)
 seats_below [] seen seats all named k d within =
-    let n = noted_there seen (get_or (events_of seen) k d) (k, within, get_or_default (events_of seen) k (get_or (events_of seen) k d) d within) in
-    subst (λ (e : Event). e.seat < seats) n.2 (named n.0 n.1)
+    let n = contains_image (λ (m : Noted _). m.event) seen (get_or (events_of seen) k d) (Contains-get_or (events_of seen) k d within) in
+    subst (λ (e : Event). e.seat < seats) (sym n.2) (named n.0 n.1)
 seats_below (e ∷ before) seen seats all named zero d within = all 0 d (omega arith)
 seats_below (e ∷ before) seen seats all named (suc k) d within = seats_below before seen seats (λ i e h. all (suc i) e (omega arith)) named k d (omega arith)
 
@@ -52,7 +52,7 @@ whole_written n new old same within = rw (drop_all (length new) old (omega arith
 
 module _ {W V : Type 0} where
   pub quiet_at_first : (pass : Token W V) → own_calls pass ≡ [] → AsksNothing pass
-  quiet_at_first pass none n there = absurd (nothing_there n (subst (λ l. Contains l n) none there))
+  quiet_at_first pass none n there = absurd (contains_none n (subst (λ l. Contains l n) none there))
 
   pub still_quiet : (a b : Token W V) → Works a b → AsksNothing a → AsksNothing b
   still_quiet a b works quiet n there = by (Contains-append_cases (own_calls a) (calls_of a.seat works.entries) n (subst (λ l. Contains l n) works.own there))
@@ -217,7 +217,7 @@ module _ {W V : Type 0} where
   last_has_pass desk all rest place is has = all_at_last (HasPass desk) rest place (subst (All (HasPass desk)) is has)
 
   seat_is_one : (pass : Token W V) (seat : ℕ) → pass.seat ≡ seat → is_one_of (seats_of pass) seat ≡ true
-  seat_is_one pass seat is = subst (λ s. is_one_of (seats_of pass) s ≡ true) is (one_of_first pass.seat pass.joined)
+  seat_is_one pass seat is = subst (λ s. is_one_of (seats_of pass) s ≡ true) is (any_of_first (λ one. one == pass.seat) pass.seat pass.joined (eq-eqb pass.seat pass.seat refl))
 
   pub one_gathered : (desk : Started W V) (all rest : List (Option (Token W V))) (place : Option (Token W V)) (pass : Token W V) → all ≡ rest ++ place ∷ [] → place ≡ Some pass → All (HasPass desk) all → HasGathered desk all rest pass
   one_gathered desk all rest place pass is here has =
@@ -247,14 +247,14 @@ module _ {W V : Type 0} where
   seats_joined one other new j = ap (λ s. s ∷ new.joined) j.seat ∙ ap (λ l. one.seat ∷ l) j.joined
 
   quiet_joined : (one other new : Token W V) → IsJoined one other new → AsksNothing one → AsksNothing other → AsksNothing new
-  quiet_joined one other new j quiet quiet_too n there = by (one_of_both (seats_of one) (seats_of other) n.event.seat (subst (λ l. is_one_of l n.event.seat ≡ true) (seats_joined one other new j) at.1))
+  quiet_joined one other new j quiet quiet_too n there = by (any_of_both (λ seat. seat == n.event.seat) (seats_of one) (seats_of other) (subst (λ l. is_one_of l n.event.seat ≡ true) (seats_joined one other new j) at.1))
     where
       at : Contains new.seen n × (is_one_of (seats_of new) n.event.seat ≡ true)
-      at = there_under (seats_of new) new.seen n there
+      at = kept_passes (λ (m : Noted W). is_one_of (seats_of new) m.event.seat) new.seen n there
 
       by : (is_one_of (seats_of one) n.event.seat ≡ true) ⊎ (is_one_of (seats_of other) n.event.seat ≡ true) → n.work ≡ None
-      by (inl mine) = quiet n (subst (λ l. Contains l n) j.calls.own (under_there (seats_of one) new.seen n at.0 mine))
-      by (inr mine) = quiet_too n (subst (λ l. Contains l n) j.other_calls.own (under_there (seats_of other) new.seen n at.0 mine))
+      by (inl mine) = quiet n (subst (λ l. Contains l n) j.calls.own (contains_kept (λ (m : Noted W). is_one_of (seats_of one) m.event.seat) new.seen n at.0 mine))
+      by (inr mine) = quiet_too n (subst (λ l. Contains l n) j.other_calls.own (contains_kept (λ (m : Noted W). is_one_of (seats_of other) m.event.seat) new.seen n at.0 mine))
 
   pub next_gathered : (desk : Started W V) (all rest less : List (Option (Token W V))) (place : Option (Token W V)) (one other new : Token W V) → HasGathered desk all rest one → rest ≡ less ++ place ∷ [] → place ≡ Some other → IsJoined one other new → HasGathered desk all less new
   next_gathered desk all rest less place one other new g is here j =
@@ -272,11 +272,11 @@ module _ {W V : Type 0} where
 
       last : (seat : ℕ) → HasWorker less seat ⊎ IsSeated seat place → HasWorker less seat ⊎ (is_one_of (seats_of new) seat ≡ true)
       last seat (inl there) = inl there
-      last seat (inr at) = inr (is_one seat (one_of_right (seats_of one) (seats_of other) seat (seat_is_one other seat (subst (IsSeated seat) here at))))
+      last seat (inr at) = inr (is_one seat (any_of_right (λ one. one == seat) (seats_of one) (seats_of other) (seat_is_one other seat (subst (IsSeated seat) here at))))
 
       by : (seat : ℕ) → HasWorker rest seat ⊎ (is_one_of (seats_of one) seat ≡ true) → HasWorker less seat ⊎ (is_one_of (seats_of new) seat ≡ true)
       by seat (inl there) = last seat (worker_where less place seat (subst (λ l. HasWorker l seat) is there))
-      by seat (inr mine) = inr (is_one seat (one_of_left (seats_of one) (seats_of other) seat mine))
+      by seat (inr mine) = inr (is_one seat (any_of_left (λ one. one == seat) (seats_of one) (seats_of other) mine))
 
   pub all_gathered : (desk : Started W V) (all : List (Option (Token W V))) (pass : Token W V) → HasGathered desk all [] pass → (seat : ℕ) → HasWorker all seat → is_one_of (seats_of pass) seat ≡ true
   all_gathered desk all pass g seat there = by (g.seats seat there)
@@ -287,7 +287,7 @@ module _ {W V : Type 0} where
 
   -- a pass that has the seats of all, and has requested nothing, has seen no request
   pub nothing_asked : (pass done : Token W V) (seats : ℕ) → Works pass done → AsksNothing pass → ((seat : ℕ) → seat < seats → is_one_of (seats_of pass) seat ≡ true) → ((n : Noted W) → Contains done.seen n → n.event.seat < seats) → works_of done.seen ≡ []
-  nothing_asked pass done seats works quiet mine named = works_without done.seen (λ n there. still_quiet pass done works quiet n (under_there (seats_of done) done.seen n there (own n there)))
+  nothing_asked pass done seats works quiet mine named = works_without done.seen (λ n there. still_quiet pass done works quiet n (contains_kept (λ (m : Noted W). is_one_of (seats_of done) m.event.seat) done.seen n there (own n there)))
     where
       same : seats_of done ≡ seats_of pass
       same = ap (λ s. s ∷ done.joined) works.same.seat ∙ ap (λ l. pass.seat ∷ l) works.same.joined

@@ -1,10 +1,12 @@
 -- The first windows of a program hold whole statements, in order, and serve each position of these.
-use Rattle.std.proofs.Common.{◌≡◌, ◌∙◌, refl, sym, ap, subst, inl, inr, ⊎_elim, ℕ, zero, suc, ◌+◌, ◌<◌, ◌≤◌, Bool, true, false, Option, None, Some, List, [], ◌∷◌, ◌++◌, flat_map, length, map, append_assoc, append-nil, arith}
+use Rattle.std.proofs.Common.{◌≡◌, ◌∙◌, refl, sym, ap, subst, inl, inr, ⊎_elim, ℕ, zero, suc, ◌+◌, ◌<◌, ◌≤◌, Bool, true, false, Option, None, Some, List, [], ◌∷◌, ◌++◌, flat_map, length, append_assoc, append-nil, arith}
 use Rattle.std.specs.Prelude.{◌⊎◌, ℤ, All, AllPairs, Contains, slice_get, if◌then◌else◌}
 use Rattle.std.proofs.lemmas.Grind.{flat_map-append}
-use Rattle.std.proofs.lemmas.List.Elements.{All-append, All-head, All-tail}
+use Rattle.std.proofs.lemmas.List.Elements.{All-head, All-tail}
 use Rattle.std.proofs.lemmas.List.Kept.{AllPairs-cons}
 use Rattle.std.proofs.lemmas.Option.{same_Some}
+use Rattle.pooma_logic.proofs.Members.{Member, all_members, contains_of, member_cases, member_image, member_left, member_map, member_of, member_right, of_all}
+use Rattle.pooma_logic.proofs.Pairs.{pairs_in_front, pairs_none, pairs_of_both}
 use Rattle.pooma_domain.specs.Cells.{IsIn}
 use Rattle.pooma_field.specs.Worlds.{opening_world}
 use Rattle.pooma_fill.specs.Marks.{Staled, declared_of, fills_before}
@@ -16,9 +18,6 @@ use Rattle.pooma_model.specs.declared.statement.Statement.{Statement}
 use Rattle.pooma_model.specs.Declarations.{Declared}
 use Rattle.pooma_model.specs.Fit.{AreFit, IsFit}
 use Rattle.pooma_model.specs.Order.{Programmed}
-use Rattle.pooma_model.proofs.Lists.{Member, contains_of, member_cases, member_left, member_of, member_right}
-use Rattle.pooma_model.proofs.Partitioning.{pairs_after, pairs_with_first}
-use Rattle.pooma_part.proofs.Dividing.{all_members}
 use Rattle.pooma_piece.specs.Meaning.{pieces}
 use Rattle.pooma_piece.specs.Pieces.{Pieced, requests_of}
 use Rattle.pooma_piece.specs.Requests.{requests_for}
@@ -31,37 +30,8 @@ use Rattle.pooma_run.specs.Served.{AreFirst, IsSound, entries_in}
 use Rattle.pooma_run.specs.Steps.{Step, has_statement, is_end, window_with, windows_of, windows_run, windows_up_to}
 use Rattle.pooma_run.proofs.Stepping.{statements_are}
 
--- ---- lists
-
-from_map : {A B : Type 0} (f : A → B) (xs : List A) (y : B) → Member (map f xs) y → (x : A) × Member xs x × (f x ≡ y)
-from_map f [] y m = absurd m
-from_map f (x ∷ xs) y m =
-    ⊎_elim (λ same. (x, inl refl, same)) (λ later. let found = from_map f xs y later in (found.0, inr found.1, found.2)) m
-
-to_map : {A B : Type 0} (f : A → B) (xs : List A) (x : A) → Member xs x → Member (map f xs) (f x)
-to_map f [] x m = absurd m
-to_map f (y ∷ xs) x m = ⊎_elim (λ same. inl (ap f same)) (λ later. inr (to_map f xs x later)) m
-
-of_all : {A : Type 0} (P : A → Type 0) (xs : List A) (x : A) → All P xs → Member xs x → P x
-of_all P xs x all m = let at = contains_of xs x m in subst P at.2 (all at.0 x at.1)
-
-none_paired : {A : Type 0} (R : A → A → Type 0) → AllPairs R []
-none_paired R i j d before within = absurd (omega (arith, within))
-
-both_paired : {A : Type 0} (R : A → A → Type 0) (xs ys : List A) → AllPairs R xs → AllPairs R ys → ((x y : A) → Member xs x → Member ys y → R x y) → AllPairs R (xs ++ ys)
-both_paired R [] ys one two across = two
-both_paired R (x ∷ xs) ys one two across =
-    AllPairs-cons R x (xs ++ ys)
-    (All-append (R x) xs ys (all_members (R x) xs (λ y m. pairs_with_first R x xs one y m)) (all_members (R x) ys (λ y m. across x y (inl refl) m)))
-    (both_paired R xs ys (pairs_after R x xs one) two (λ y z m n. across y z (inr m) n))
-
-front_paired : {A : Type 0} (R : A → A → Type 0) (xs ys : List A) → AllPairs R (xs ++ ys) → AllPairs R xs
-front_paired R [] ys all = none_paired R
-front_paired R (x ∷ xs) ys all =
-    AllPairs-cons R x xs (all_members (R x) xs (λ y m. pairs_with_first R x (xs ++ ys) all y (member_left xs ys y m))) (front_paired R xs ys (pairs_after R x (xs ++ ys) all))
-
 all_equal : (number : ℕ) (entries : List Entry) → ((entry : Entry) → Member entries entry → entry.statement ≡ number) → AllPairs (λ (one other : Entry). one.statement ≤ other.statement) entries
-all_equal number [] same = none_paired (λ one other. one.statement ≤ other.statement)
+all_equal number [] same = pairs_none (λ one other. one.statement ≤ other.statement)
 all_equal number (e ∷ entries) same =
     AllPairs-cons (λ (one other : Entry). one.statement ≤ other.statement) e entries
     (all_members (λ (other : Entry). e.statement ≤ other.statement) entries
@@ -173,7 +143,7 @@ module _ (laws : HasLaws) (asks : Asks) where
   entry_is : (stale : Staled) (number : ℕ) (does : Action) → AreArrays (declared_of stale).shapes stale.layouts → IsFit (declared_of stale) does → (entry : Entry)
       → Member (step_of stale number does).entries entry → IsEntryOf number entry
   entry_is stale number does arrays fit entry m =
-      let from = from_map (entry_of pieces) (works_of stale [] number does) entry m in
+      let from = member_image (entry_of pieces) (works_of stale [] number does) entry m in
       subst (IsEntryOf number) from.2 (record {
         statement = of_all (λ (piece : Pieced). piece.statement ≡ number) (works_of stale [] number does) from.0 (statements_are laws stale [] number does arrays fit) from.1;
         requests = asks.form from.0.write from.0.reads;
@@ -185,7 +155,7 @@ module _ (laws : HasLaws) (asks : Asks) where
       let found = asks.serves (declared_of stale) [] number does p arrays fit at in
       let fills = fills_before stale.layouts stale number does in
       let made = pieces_of (declared_of stale) [] number does in
-      let here = to_map (entry_of pieces) (works_of stale [] number does) found.0 (member_right fills made found.0 (member_of made found.0 found.1)) in
+      let here = member_map (entry_of pieces) (works_of stale [] number does) found.0 (member_right fills made found.0 (member_of made found.0 found.1)) in
       (entry_of pieces found.0, here, (entry_is stale number does arrays fit (entry_of pieces found.0) here).statement, found.3)
 
   -- where entries of a statement stand
@@ -218,9 +188,9 @@ module _ (laws : HasLaws) (asks : Asks) where
   -- their numbers never fall
   never_fall : (statements : List Statement) (stale : Staled) (first : ℕ) → AreArrays (declared_of stale).shapes stale.layouts → AreFit (declared_of stale) statements
       → AllPairs (λ (one other : Entry). one.statement ≤ other.statement) (added (steps_of stale first statements))
-  never_fall [] stale first arrays fit = none_paired (λ one other. one.statement ≤ other.statement)
+  never_fall [] stale first arrays fit = pairs_none (λ one other. one.statement ≤ other.statement)
   never_fall (s ∷ statements) stale first arrays fit =
-      both_paired (λ (one : Entry) (other : Entry). one.statement ≤ other.statement) (step_of stale first s.action).entries (added (steps_of (stale_after stale s.action) (suc first) statements))
+      pairs_of_both (λ (one : Entry) (other : Entry). one.statement ≤ other.statement) (step_of stale first s.action).entries (added (steps_of (stale_after stale s.action) (suc first) statements))
       (all_equal first (step_of stale first s.action).entries (λ entry m. (now entry m).statement))
       (never_fall statements (stale_after stale s.action) (suc first) arrays rest)
       (λ one other m n.
@@ -312,7 +282,7 @@ module _ (laws : HasLaws) (asks : Asks) (program : Programmed) (sound : IsSound 
   pub rise : AllPairs (λ (one other : Entry). one.statement ≤ other.statement) (entries_in windows)
   rise =
       subst (AllPairs (λ (one other : Entry). one.statement ≤ other.statement)) (sym whole.entries)
-      (front_paired (λ (one other : Entry). one.statement ≤ other.statement) (added whole.before) (added whole.after)
+      (pairs_in_front (λ (one other : Entry). one.statement ≤ other.statement) (added whole.before) (added whole.after)
       (subst (AllPairs (λ (one other : Entry). one.statement ≤ other.statement)) all_added (never_fall laws asks program.order stale 0 arrays fit)))
 
   pub all_served : (last : Entry) (number : ℕ) (s : Statement) (p : List ℤ) → Contains (entries_in windows) last → number ≤ last.statement → slice_get program.order number ≡ Some s → IsPositionOf s.action p

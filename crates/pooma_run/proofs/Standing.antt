@@ -1,11 +1,13 @@
 -- What objects that stand for a world of a program give: fills can be done, pieces can, and views can be shown.
-use Rattle.std.proofs.Common.{◌≡◌, ◌∙◌, refl, sym, ap, subst, inl, inr, ℕ, ◌<◌, ◌≤◌, Bool, true, false, Option, None, Some, List, [], ◌∷◌, length, map, take, arith}
+use Rattle.std.proofs.Common.{◌≡◌, ◌∙◌, refl, sym, ap, subst, inl, inr, ℕ, ◌<◌, ◌≤◌, false, Option, None, Some, List, [], ◌∷◌, length, map, take, arith}
 use Rattle.std.proofs.Math.Seq.{take-length}
 use Rattle.std.proofs.lemmas.List.{length-map}
-use Rattle.std.specs.Prelude.{◌⊎◌, ℤ, All, Contains, IsSome}
+use Rattle.std.specs.Prelude.{ℤ, All, Contains, IsSome}
 use Rattle.std.specs.Int.Signed.{≤ℤ_refl}
 use Rattle.std.specs.Option.{option_map_or}
 use Rattle.std.proofs.lemmas.List.Elements.{All-head, All-tail}
+use Rattle.pooma_logic.specs.Decided.{Or_not}
+use Rattle.pooma_logic.proofs.Decided.{as_or_not, contains_or_not, same_list_or_not, same_ℤ_or_not}
 use Rattle.pooma_domain.specs.Cells.{Interval, IsAxis, IsBox, IsIn, cells_of}
 use Rattle.pooma_view.specs.Slots.{cell_named, positions_of}
 use Rattle.pooma_view.specs.Views.{Viewed}
@@ -20,9 +22,6 @@ use Rattle.pooma_fill.specs.Marks.{HasArrays, Staled, declared_of}
 use Rattle.pooma_model.specs.Declarations.{Declared, seen_in, shape_at}
 use Rattle.pooma_model.specs.Fit.{IsReadable}
 use Rattle.pooma_model.specs.Runs.{IsWorldOf}
-use Rattle.pooma_piece.specs.Lent.{is_in}
-use Rattle.pooma_piece.proofs.Areas.{passes_in}
-use Rattle.pooma_piece.proofs.Seen.{is_in_is}
 use Rattle.pooma_split.specs.Statements.{HasView, Stands}
 use Rattle.pooma_store.specs.Numbering.{AreObjects}
 use Rattle.pooma_store.specs.Standing.{HasTotal, OwnerHas, StandsFor, IsFreshFor}
@@ -30,12 +29,9 @@ use Rattle.pooma_store.specs.Stored.{AreArrays, Stored}
 use Rattle.pooma_run.specs.Gathered.{OfWorlds}
 use Rattle.pooma_run.specs.Underway.{IsHere}
 
-in_or_out : (box : List Interval) (c : List ℤ) → IsIn box c ⊎ (¬ (IsIn box c))
-in_or_out box c = by (is_in box c) refl
-  where
-    by : (b : Bool) → is_in box c ≡ b → IsIn box c ⊎ (¬ (IsIn box c))
-    by true e = inl (is_in_is box c e)
-    by false e = inr (λ h. let clash : false ≡ true = sym e ∙ passes_in box c h in cc)
+-- whether a cell lies in a box is told by looking among the cells of the box
+in_or_out : OfWorlds → (box : List Interval) (c : List ℤ) → Or_not (IsIn box c)
+in_or_out laws box c = as_or_not (laws.cells box c).0 (laws.cells box c).1 (contains_or_not (same_list_or_not same_ℤ_or_not) (cells_of box) c)
 
 -- the arrays that are kept with their marks, as a store that has no others
 abbrev pub store_of : Staled → Stored
@@ -107,7 +103,7 @@ all_stands declared objects world views arrays of are stands readable fresh = re
 pub owner_shows : OfWorlds → (declared : Declared) (marks : List Mark) (objects : List Numbered) (world : World) (view : Viewed) → IsHere declared marks objects world → IsReadable declared view
     → IsFreshFor declared.shapes declared.layouts objects world view → (p : List ℤ) → IsIn (positions_of view.slots) p
     → OwnerHas declared.layouts objects view.array (cell_named view.slots p) (seen_in declared world view (cell_named view.slots p))
-owner_shows laws declared marks objects world view here readable fresh p at = by (in_or_out (own_area shape) c)
+owner_shows laws declared marks objects world view here readable fresh p at = by (in_or_out laws (own_area shape) c)
   where
     shape : Shaped
     shape = shape_at declared view.array
@@ -115,7 +111,7 @@ owner_shows laws declared marks objects world view here readable fresh p at = by
     c : List ℤ
     c = cell_named view.slots p
 
-    by : IsIn (own_area shape) c ⊎ (¬ (IsIn (own_area shape) c)) → OwnerHas declared.layouts objects view.array c (seen_in declared world view c)
+    by : Or_not (IsIn (own_area shape) c) → OwnerHas declared.layouts objects view.array c (seen_in declared world view c)
     by (inl own) =
         subst (OwnerHas declared.layouts objects view.array c) (sym (laws.own declared world view c own))
         (here.stands view.array c (has_own declared world view.array c here.world_of readable.there own))

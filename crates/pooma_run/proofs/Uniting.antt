@@ -1,11 +1,12 @@
 -- Two ascending lists made one: the least of what is left of both is taken, again and again.
 use Rattle.std.proofs.Common.{◌≡◌, ◌≢◌, ◌⊎◌, ◌↔◌, ◌<◌, ◌≤◌, ℕ, List, [], ◌∷◌, ◌++◌, length, get_or, Contains, Some, slice_get, min, refl, sym, subst, arith, inl, inr}
 use Rattle.std.proofs.lemmas.Bool.Decides.{eqb_tells, leb_tells}
+use Rattle.std.proofs.lemmas.List.Elements.{Contains-get_or}
 use Rattle.std.proofs.lemmas.List.Quantifiers.{all_pairs_push}
+use Rattle.pooma_logic.proofs.Ascending.{ascending_first}
+use Rattle.pooma_logic.proofs.Elements.{contains_cases, contains_first, contains_none}
 use Rattle.pooma_machine.specs.Became.{IsAscending}
-use Rattle.pooma_machine.proofs.Listed.{contains_cases, contains_first, there_at}
-use Rattle.pooma_machine.proofs.Named.{ascending_first}
-use Rattle.pooma_run.proofs.Lists.{behind_cases, behind_last, behind_others, contains_none}
+use Rattle.pooma_run.proofs.Lists.{behind_cases, behind_last, behind_others}
 
 -- one of the two lists has it
 abbrev pub InEither : List ℕ → List ℕ → ℕ → Type 0
@@ -43,7 +44,7 @@ pub next_united : (one other left right all left_behind right_behind more : List
 next_united one other left right all left_behind right_behind more entry so_far there least left_up left_others right_up right_others is = record {
   left_up = left_up;
   right_up = right_up;
-  up = rw is (all_pairs_push (λ a b. a < b) all entry so_far.up (λ k d h. so_far.below (get_or all k d) entry (there_at all k d h) there));
+  up = rw is (all_pairs_push (λ a b. a < b) all entry so_far.up (λ k d h. so_far.below (get_or all k d) entry (Contains-get_or all k d h) there));
   below = λ i j in_more rest. elim (behind_cases all entry i (rw is at in_more)) [
     | inl before ↦ so_far.below i j before (was j rest)
     | inr same ↦ let low = least j (was j rest) in let differs = other_than j rest in omega (arith, same, low, differs)

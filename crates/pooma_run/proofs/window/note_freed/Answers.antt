@@ -1,8 +1,8 @@
-use Rattle.std.proofs.Common.{◌∙◌, sym}
+use Rattle.std.proofs.Common.{◌∙◌, [], ap, option_map, sym}
+use Rattle.std.proofs.lemmas.Option.{get_or_from_slice_get, slice_get-map}
 use Rattle.pooma_queue.specs.declared.queue.Mode.TheVariants.{Read}
 use Rattle.pooma_machine.specs.declared.step.Request.{Request}
 use Rattle.pooma_machine.specs.Values.{asks_of}
-use Rattle.pooma_machine.proofs.Worth.{asks_at}
 use Rattle.pooma_run.proofs.Choosing.{all_over, next_over}
 use Rattle.pooma_run.proofs.window.note_freed.Goals as goal
 
@@ -14,6 +14,9 @@ loop-request-preserved g c =
 
 pub returns : goal.returns
 returns g c =
-    let asks = c.requests-request-items.ensures.requests ∙ sym (asks_at g.W.Work.meaning c.args.machine.now.plan c.args.released c.work.result.now c.work.ensures.work) in
-    all_over (asks_of g.W.Work.meaning c.args.machine.now.plan) c.args.machine.now.history c.args.choices.now c.requests-request-items.result.now c.args.released c.loop-request.request-index
+    let meaning = g.W.Work.meaning in
+    let plan = c.args.machine.now.plan in
+    let there = slice_get-map meaning.requests plan c.args.released ∙ ap (option_map meaning.requests) c.work.ensures.work in
+    let asks = c.requests-request-items.ensures.requests ∙ sym (get_or_from_slice_get (asks_of meaning plan) c.args.released (meaning.requests c.work.result.now) [] there) in
+    all_over (asks_of meaning plan) c.args.machine.now.history c.args.choices.now c.requests-request-items.result.now c.args.released c.loop-request.request-index
     c.loop-request.choices asks c.loop-request-test.false c.as_slice-ascending.ensures.ascending c.requires.freed c.loop-request.invariant
