@@ -11,7 +11,8 @@ use Rattle.pooma_machine.specs.declared.step.Request.{Request}
 use Rattle.pooma_machine.specs.declared.step.Event.{Event}
 use Rattle.pooma_machine.specs.Steps.{IsLeastReadyFor, IsReady, IsReadyFor, is_released, status_of}
 use Rattle.pooma_machine.specs.Lines.{IsTied, line}
-use Rattle.pooma_machine.proofs.Listed.{dropped_in, taken_more, there_at}
+use Rattle.std.proofs.lemmas.List.Elements.{Contains-get_or}
+use Rattle.pooma_machine.proofs.Listed.{dropped_in, taken_more}
 use Rattle.pooma_machine.proofs.Waking.{front_in, ready_in_front}
 
 -- the rest of requests in order is in order
@@ -82,7 +83,7 @@ module _ (plan : List (List Request)) (history : List Event) (queues : List Wait
   pub first_ready_least : IsInOrder rest → (k : ℕ) (d : Asked) → k < length rest → NoneReady plan history (take k rest) → IsReady plan history (get_or rest k d).entry
       → IsLeastReadyFor plan history object from (get_or rest k d).entry
   first_ready_least order k d within none ready =
-      let here = only (get_or rest k d) (there_at rest k d within) in
+      let here = only (get_or rest k d) (Contains-get_or rest k d within) in
       let stands = tied.stands object (get_or rest k d) (front_in (line queues object) (get_or rest k d) (subst (λ xs. Contains xs (get_or rest k d)) part here.0)) in
       record { not_below = here.1; ready = (ready, (get_or rest k d).mode, stands.0); before = before }
     where

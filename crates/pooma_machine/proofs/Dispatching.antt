@@ -13,7 +13,7 @@ use Rattle.pooma_machine.specs.Steps.{requests_of, AsksFor, status_of, is_out, i
 use Rattle.pooma_machine.specs.Values.{Meaning, Lent, FitsLent, values, lent_by, written_object, read_objects, asks_of}
 use Rattle.pooma_machine.specs.Slots.{home_at, lent_from}
 use Rattle.pooma_machine.specs.Machine.{Matches, FitsShapes}
-use Rattle.pooma_machine.proofs.Listed.{contains_cases, contains_first, contains_rest, contains_none}
+use Rattle.pooma_logic.proofs.Elements.{contains_cases, contains_first, contains_rest, contains_none}
 use Rattle.pooma_machine.proofs.Worth.{asks_at, asked_there, out_in_plan, not_none}
 use Rattle.pooma_machine.proofs.Lending.{read_shapes, written_shape, filter_map_same, written_holds}
 use Rattle.pooma_machine.proofs.Ties.{request_of}

@@ -8,7 +8,7 @@ use Rattle.pooma_machine.specs.declared.step.Request.{Request}
 use Rattle.pooma_machine.specs.declared.lines.Holder.{Holder}
 use Rattle.pooma_machine.specs.Steps.{IsRequestList, requests_of, ConflictOver, Conflict}
 use Rattle.pooma_machine.specs.Lines.{line, IsTied, holder_over, lesser, held_by}
-use Rattle.pooma_machine.proofs.Listed.{contains_cases, contains_first, contains_rest, contains_none}
+use Rattle.pooma_logic.proofs.Elements.{contains_cases, contains_first, contains_rest, contains_none}
 use Rattle.pooma_machine.proofs.Ties.{request_of, asked_of, form_rest}
 
 abbrev pub holder_at : ℕ → ℕ → Holder

@@ -19,7 +19,8 @@ use Rattle.pooma_machine.specs.Steps.{IsRequestList, AsksFor, requests_of, Confl
 use Rattle.pooma_machine.specs.Lines.{line, room_at, asked_at, line_after, held_by}
 use Rattle.pooma_machine.specs.Kept.{IsKept, IsSound, HasRoom, owed}
 use Rattle.std.proofs.lemmas.List.Sums.{sum_by-set, sum_by-append}
-use Rattle.pooma_machine.proofs.Listed.{contains_none, slice_get_before, slice_get_last, slice_get_behind, slice_get_written, slice_get_kept}
+use Rattle.pooma_logic.proofs.Elements.{contains_none}
+use Rattle.pooma_machine.proofs.Listed.{slice_get_before, slice_get_last, slice_get_behind, slice_get_written, slice_get_kept}
 use Rattle.pooma_machine.proofs.Plans.{asks_in_plan, status_own, status_other, issued_more, conflict_old, legal_more, legal_snoc}
 use Rattle.pooma_machine.proofs.Ties.{tied_same, tied_entered, tied_let_go}
 use Rattle.pooma_machine.proofs.Holders.{held_by_none, held_by_some}

@@ -10,7 +10,7 @@ use Rattle.pooma_machine.specs.declared.step.Request.{Request}
 use Rattle.pooma_machine.specs.Slots.{home_at}
 use Rattle.pooma_machine.specs.Values.{read_objects, written_object, is_write, is_read}
 use Rattle.std.specs.List.{cons_option}
-use Rattle.pooma_machine.proofs.Listed.{contains_first, contains_rest}
+use Rattle.pooma_logic.proofs.Elements.{contains_first, contains_rest}
 
 -- the objects that two parts of a list of requests ask to read
 pub read_append : (xs ys : List Request) → read_objects (xs ++ ys) ≡ read_objects xs ++ read_objects ys

@@ -1,8 +1,8 @@
--- What stands at a place of a list, which elements it has, and tests of numbers.
-use Rattle.std.proofs.Common.{◌≡◌, ◌≢◌, ◌↔◌, ◌+◌, ◌<◌, ℕ, zero, suc, Bool, true, false, find, List, [], ◌∷◌, ◌++◌, length, take, drop, set, get_or, Some, None, slice_get, Contains, map, refl, sym, ◌∙◌, ap, subst, arith, inl, inr, ◌⊎◌, ◌==◌}
+-- What stands at a place of a list, the elements of a part of it, and tests of numbers.
+use Rattle.std.proofs.Common.{◌≡◌, ◌≢◌, ◌↔◌, ◌+◌, ◌<◌, ℕ, zero, suc, Bool, true, false, find, List, [], ◌∷◌, ◌++◌, length, take, drop, set, get_or, Some, None, slice_get, Contains, refl, sym, ap, subst, arith, inl, inr, ◌⊎◌, ◌==◌}
 use Rattle.std.proofs.lemmas.Bool.Decides.{eqb_tells}
-use Rattle.std.proofs.lemmas.List.{get_or-map, get_or_default, length-map}
 use Rattle.std.proofs.Math.Seq.{take-append_seam}
+use Rattle.pooma_logic.proofs.Elements.{contains_cases, contains_first, contains_none, contains_rest}
 
 pub same_test : (j : ℕ) → (j == j) ≡ true
 same_test j = elim (eqb_tells j j) [ inl t ↦ t.0 | inr f ↦ absurd (f.1 refl) ]
@@ -37,51 +37,10 @@ slice_get_kept (y ∷ xs) zero (suc i) x ne = refl
 slice_get_kept (y ∷ xs) (suc k) zero x ne = refl
 slice_get_kept (y ∷ xs) (suc k) (suc i) x ne = slice_get_kept xs k i x (λ e. ne (ap suc e))
 
--- an element of a list that begins with x is x, or is one of the rest
-pub contains_cases : {X : Type 0} (x : X) (xs : List X) (y : X) → Contains (x ∷ xs) y → (y ≡ x) ⊎ Contains xs y
-contains_cases x xs y (zero, h, e) = inl (sym e)
-contains_cases x xs y (suc k, h, e) = inr (k, omega arith, e)
-
-pub contains_first : {X : Type 0} (x : X) (xs : List X) → Contains (x ∷ xs) x
-contains_first x xs = (0, omega arith, refl)
-
-pub contains_rest : {X : Type 0} (x : X) (xs : List X) (y : X) → Contains xs y → Contains (x ∷ xs) y
-contains_rest x xs y (k, h, e) = (suc k, omega arith, e)
-
-pub contains_none : {X : Type 0} (y : X) → Contains [] y → ⊥
-contains_none y (k, h, e) = absurd (omega arith)
-
--- the image of an element is an element of the images
-pub contains_map : {X Y : Type 0} (f : X → Y) (xs : List X) (x : X) → Contains xs x → Contains (map f xs) (f x)
-contains_map f xs x (k, h, e) = (k, omega (arith, length-map xs f), get_or-map f xs k x (f x) h ∙ ap f e)
-
--- and each image is that of an element
-pub contains_image : {X Y : Type 0} (f : X → Y) (xs : List X) (y : Y) → Contains (map f xs) y → (x : X) × Contains xs x × (y ≡ f x)
-contains_image f [] y h = absurd (contains_none y h)
-contains_image f (x ∷ xs) y h =
-    elim (contains_cases (f x) (map f xs) y h) [
-      | inl e ↦ (x, contains_first x xs, e)
-      | inr more ↦ let rest = contains_image f xs y more in (rest.0, contains_rest x xs rest.0 rest.1, rest.2)
-    ]
-
 -- a search in which nothing passes finds nothing
 pub find_nothing : {X : Type 0} (p : X → Bool) (xs : List X) → ((i : ℕ) (d : X) → i < length xs → p (get_or xs i d) ≡ false) → find p xs ≡ None
 find_nothing p [] none = refl
 find_nothing p (x ∷ xs) none = rw (none 0 x (omega arith)) (find_nothing p xs (λ i d h. none (suc i) d (omega arith)))
-
--- an element of a list is in it
-pub there_at : {X : Type 0} (xs : List X) (k : ℕ) (d : X) → k < length xs → Contains xs (get_or xs k d)
-there_at xs k d h = (k, h, get_or_default xs k (get_or xs k d) d h)
-
--- whether a number is in a list is told by looking
-pub is_there : (c : ℕ) (xs : List ℕ) → Contains xs c ⊎ (Contains xs c → ⊥)
-is_there c [] = inr (λ h. contains_none c h)
-is_there c (x ∷ xs) = by (eqb_tells c x) (is_there c xs)
-  where
-    by : (((c == x) ≡ true) × (c ≡ x)) ⊎ (((c == x) ≡ false) × (c ≢ x)) → Contains xs c ⊎ (Contains xs c → ⊥) → Contains (x ∷ xs) c ⊎ (Contains (x ∷ xs) c → ⊥)
-    by (inl same) rest = inl (subst (Contains (x ∷ xs)) (sym same.1) (contains_first x xs))
-    by (inr other) (inl there) = inl (contains_rest x xs c there)
-    by (inr other) (inr none) = inr (λ h. elim (contains_cases x xs c h) [ inl e ↦ other.1 e | inr more ↦ none more ])
 
 -- an element of a part of a list is one of the list
 pub taken_in : {X : Type 0} (n : ℕ) (xs : List X) (x : X) → Contains (take n xs) x → Contains xs x

@@ -3,22 +3,17 @@ use Rattle.std.proofs.Common.{◌≡◌, ◌⊎◌, ◌||◌, ◌<◌, ◌≤◌
 use Rattle.std.proofs.Math.Bool.{or-false}
 use Rattle.std.proofs.lemmas.Bool.Decides.{leb_tells, eqb_tells}
 use Rattle.std.proofs.lemmas.List.{take_all, get_or-take}
+use Rattle.std.proofs.lemmas.List.Elements.{Contains-get_or}
 use Rattle.std.proofs.lemmas.List.Kept.{AllPairs-cons}
 use Rattle.std.proofs.lemmas.List.Sorted.{searched}
 use Rattle.std.specs.List.Sorted.{IsBinarySearchResult}
 use Rattle.std.specs.Ordering.{nat_cmp}
+use Rattle.pooma_logic.proofs.Ascending.{ascending_first, ascending_rest, ascending_rises}
+use Rattle.pooma_logic.proofs.Elements.{contains_cases, contains_first, contains_rest, contains_none}
 use Rattle.pooma_machine.specs.Became.{IsAscending, Woken, Names, with_entry}
-use Rattle.pooma_machine.proofs.Listed.{contains_cases, contains_first, contains_rest, contains_none, there_at}
-
--- what an ascending list begins with is below the rest, which ascends
-pub ascending_rest : (x : ℕ) (xs : List ℕ) → IsAscending (x ∷ xs) → IsAscending xs
-ascending_rest x xs up i j d lt within = up (suc i) (suc j) d (omega arith) (omega arith)
-
-pub ascending_first : (x : ℕ) (xs : List ℕ) (b : ℕ) → IsAscending (x ∷ xs) → Contains xs b → x < b
-ascending_first x xs b up (k, within, is) = subst (λ y. x < y) is (up 0 (suc k) b (omega arith) (omega arith))
 
 pub ascending_cons : (x : ℕ) (xs : List ℕ) → ((b : ℕ) → Contains xs b → x < b) → IsAscending xs → IsAscending (x ∷ xs)
-ascending_cons x xs below up = AllPairs-cons (λ a b. a < b) x xs (λ k d h. below (get_or xs k d) (there_at xs k d h)) up
+ascending_cons x xs below up = AllPairs-cons (λ a b. a < b) x xs (λ k d h. below (get_or xs k d) (Contains-get_or xs k d h)) up
 
 pub ascending_take : (xs : List ℕ) (n : ℕ) → IsAscending xs → IsAscending (take n xs)
 ascending_take xs n up i j d lt within =
@@ -27,13 +22,6 @@ ascending_take xs n up i j d lt within =
     let b : get_or (take n xs) j d ≡ get_or xs j d = get_or-take n xs j d (omega arith) in
     let above : get_or xs i d < get_or xs j d = up i j d lt (omega arith) in
     omega arith
-
-pub ascending_rises : (xs : List ℕ) → IsAscending xs → (i j : ℕ) → i ≤ j → j < length xs → get_or xs i 0 ≤ get_or xs j 0
-ascending_rises xs up i j le within =
-    elim (eqb_tells i j) [
-      | inl same ↦ let e : get_or xs i 0 ≡ get_or xs j 0 = ap (λ k. get_or xs k 0) same.1 in omega arith
-      | inr other ↦ let lt : get_or xs i 0 < get_or xs j 0 = up i j 0 (omega (arith, other.1)) within in omega arith
-    ]
 
 -- where a number is put in: before the first one, at it, or behind it
 abbrev pub Placed : ℕ → ℕ → List ℕ → Type 0

@@ -11,7 +11,8 @@ use Rattle.pooma_machine.specs.declared.step.Event.{Event}
 use Rattle.pooma_machine.specs.declared.step.EventKind.{EventKind}
 use Rattle.pooma_machine.specs.declared.step.EventKind.TheVariants as kind
 use Rattle.pooma_machine.specs.Steps.{requests_of, AsksFor, Conflict, next, status_after, status_of, issued, Comes, MayCome, IsLegal, event_of}
-use Rattle.pooma_machine.proofs.Listed.{same_test, other_test, slice_get_before, slice_get_last, contains_none}
+use Rattle.pooma_logic.proofs.Elements.{contains_none}
+use Rattle.pooma_machine.proofs.Listed.{same_test, other_test, slice_get_before, slice_get_last}
 
 -- a further event changes the status of its own entry alone
 pub status_own : (history : List Event) (kind : EventKind) (j seat : ℕ) → status_of (history ++ event_of kind j seat ∷ []) j ≡ next kind seat (status_of history j)

@@ -4,7 +4,7 @@ use Rattle.std.proofs.Math.Bool.{or-false, or-true}
 use Rattle.std.proofs.lemmas.Bool.Decides.{eqb_tells}
 use Rattle.std.proofs.lemmas.List.{append-nil, take_more, get_or-take, get_or_default}
 use Rattle.pooma_queue.specs.declared.queue.Mode.{Mode}
-use Rattle.pooma_machine.proofs.Listed.{contains_cases, contains_none}
+use Rattle.pooma_logic.proofs.Elements.{contains_cases, contains_none}
 use Rattle.pooma_queue.specs.Requests.{Waiting, let_go}
 use Rattle.pooma_machine.specs.declared.step.Request.{Request}
 use Rattle.pooma_machine.specs.Steps.{IsRequestList}

@@ -10,7 +10,8 @@ use Rattle.pooma_queue.specs.Requests.{Waiting, IsInOrder, let_go, released}
 use Rattle.pooma_machine.specs.declared.step.Request.{Request}
 use Rattle.pooma_machine.specs.Steps.{IsRequestList, requests_of, AsksFor}
 use Rattle.pooma_machine.specs.Lines.{line, IsTied, asked_at, asks_here, line_after}
-use Rattle.pooma_machine.proofs.Listed.{same_test, other_test, contains_cases, contains_first, contains_rest, contains_none, contains_map, contains_image}
+use Rattle.pooma_logic.proofs.Elements.{contains_cases, contains_first, contains_rest, contains_none, contains_map, contains_image}
+use Rattle.pooma_machine.proofs.Listed.{same_test, other_test}
 use Rattle.pooma_machine.proofs.Plans.{requests_of_old, requests_of_new, asks_in_plan}
 use Rattle.pooma_machine.proofs.Queues.{asks_none, asks_not, not_asked}
 

@@ -18,7 +18,10 @@ use Rattle.pooma_machine.specs.declared.step.Status.{Status}
 use Rattle.pooma_machine.specs.Lines.{line, IsTied}
 use Rattle.pooma_machine.specs.Kept.{IsKept}
 use Rattle.pooma_machine.proofs.Keeps.{in_range}
-use Rattle.pooma_machine.proofs.Listed.{contains_none, is_there, taken_in, dropped_in, taken_more, there_at, find_nothing}
+use Rattle.std.proofs.lemmas.List.Elements.{Contains-get_or}
+use Rattle.pooma_logic.proofs.Decided.{contains_or_not, same_ℕ_or_not}
+use Rattle.pooma_logic.proofs.Elements.{contains_none}
+use Rattle.pooma_machine.proofs.Listed.{taken_in, dropped_in, taken_more, find_nothing}
 use Rattle.pooma_machine.proofs.Plans.{status_own, status_other, asks_in_plan}
 use Rattle.pooma_machine.proofs.Ties.{request_of}
 use Rattle.pooma_machine.proofs.Holders.{holding_says}
@@ -182,7 +185,7 @@ ready_in_front plan history queues front object c mode has tied ready asks = let
               let b = get_or (line queues object) i d in
               let earlier : b.entry < (get_or (line queues object) k d).entry = tied.order object i k d below within in
               let own : (get_or (line queues object) k d).entry ≡ c = ap (λ (q : Asked). q.entry) (get_or_from_slice_get (line queues object) k asked d read) in
-              rw (get_or-take k (line queues object) i d below) (free b (there_at (line queues object) i d (omega arith)) (omega arith) (holds_back mode b) refl)));
+              rw (get_or-take k (line queues object) i d below) (free b (Contains-get_or (line queues object) i d (omega arith)) (omega arith) (holds_back mode b) refl)));
         }
       where
         read : slice_get (line queues object) k ≡ Some asked
@@ -305,7 +308,7 @@ pub freed_became : (plan : List (List Request)) (history : List Event) (j seat :
     → NamesThose (BecameReady plan history (history ++ event_of kind.Release j seat ∷ [])) woken
 freed_became plan history j seat woken out (whole, list, names) = (
   whole,
-  record { ascending = list.ascending; exactly = λ c. (λ h. became c ((list.exactly c).0 h), λ b. listed c (is_there c whole) b) },
+  record { ascending = list.ascending; exactly = λ c. (λ h. became c ((list.exactly c).0 h), λ b. listed c (contains_or_not same_ℕ_or_not whole c) b) },
   names,
 )
   where

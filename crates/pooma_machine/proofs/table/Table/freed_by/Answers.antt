@@ -6,7 +6,8 @@ use Rattle.pooma_machine.specs.declared.step.Request.{Request}
 use Rattle.pooma_machine.specs.Values.{asks_of}
 use Rattle.pooma_machine.specs.Became.{IsFreedBy}
 use Rattle.pooma_machine.proofs.Keeps.{asks_read}
-use Rattle.pooma_machine.proofs.Listed.{contains_none, there_at}
+use Rattle.std.proofs.lemmas.List.Elements.{Contains-get_or}
+use Rattle.pooma_logic.proofs.Elements.{contains_none}
 use Rattle.pooma_machine.proofs.Waking.{FreedOverSome, names_nothing, freed_over_more, freed_by, names_those_same}
 use Rattle.pooma_machine.proofs.table.Table.freed_by.Goals as goal
 
@@ -19,7 +20,7 @@ note_freed-requires g c =
     let within : c.args.j < length c.self.inside.works.items = rw (← c.self.view_is, length-map) at c.requires in
     let asks = c.requests-request-items.ensures.requests ∙ (ap g.W.Work.meaning.requests c.deref.ensures ∙ sym (asks_read arc_value g.W.Work.meaning.requests c.self.inside.works.items c.args.j c.index.result.now within c.index.ensures)) in
     let d : Request = record { object = 0; mode = Read } in
-    rw (← c.self.view_is) (subst (λ rs. Contains rs (get_or c.requests-request-items.result.now c.loop-request.request-index d)) asks (there_at c.requests-request-items.result.now c.loop-request.request-index d c.loop-request-test.true))
+    rw (← c.self.view_is) (subst (λ rs. Contains rs (get_or c.requests-request-items.result.now c.loop-request.request-index d)) asks (Contains-get_or c.requests-request-items.result.now c.loop-request.request-index d c.loop-request-test.true))
 
 pub loop-request-preserved : goal.loop-request-preserved
 loop-request-preserved g c =

@@ -6,7 +6,7 @@ use Rattle.pooma_queue.specs.declared.queue.Mode.TheVariants.{Read}
 use Rattle.pooma_machine.specs.Lines.{line}
 use Rattle.pooma_machine.specs.Steps.{is_released, status_of}
 use Rattle.pooma_machine.proofs.Keeps.{asks_of_works}
-use Rattle.pooma_machine.proofs.Listed.{there_at}
+use Rattle.std.proofs.lemmas.List.Elements.{Contains-get_or}
 use Rattle.pooma_machine.proofs.Waking.{object_there, asked_in_plan, front_in, freed_noted, freed_passed, freed_over, notes_same, FreedAmong}
 use Rattle.pooma_machine.specs.Values.{asks_of}
 use Rattle.pooma_machine.specs.Became.{Notes, IsFreedOver}
@@ -23,7 +23,7 @@ is_freed-requires g c =
     let d : Asked = record { entry = 0; mode = Read; released = false } in
     let held = c.held_back-asked-items in
     let one = get_or held.result.now c.loop-asked.asked-index d in
-    let in_front = held.ensures.of_these one (there_at held.result.now c.loop-asked.asked-index d c.loop-asked-test.true) in
+    let in_front = held.ensures.of_these one (Contains-get_or held.result.now c.loop-asked.asked-index d c.loop-asked-test.true) in
     let there = front_in (line c.self.inside.lines c.args.request.object) one (subst (λ xs. Contains xs one) c.front.ensures.requests in_front) in
     let long = asks_of_works arc_value g.W.Work.meaning.requests c.self.inside.works.items in
     let below = (asked_in_plan _ (λ i. is_released (status_of c.self.inside.history.items i)) c.self.inside.lines c.args.request.object one c.self.invariant.0.tied there) in

@@ -7,7 +7,7 @@ use Rattle.pooma_machine.specs.Lines.{line}
 use Rattle.pooma_machine.specs.Steps.{is_released, status_of}
 use Rattle.pooma_machine.specs.Values.{asks_of}
 use Rattle.pooma_machine.proofs.Keeps.{asks_of_works}
-use Rattle.pooma_machine.proofs.Listed.{there_at}
+use Rattle.std.proofs.lemmas.List.Elements.{Contains-get_or}
 use Rattle.pooma_machine.proofs.Queues.{on_ok_holds}
 use Rattle.pooma_machine.proofs.Waking.{asked_in_plan, front_in}
 use Rattle.pooma_machine.proofs.Awaited.{first_ready_least, none_ready_for, none_ready_more}
@@ -18,7 +18,7 @@ check-requires g c =
     let d : Asked = record { entry = 0; mode = Read; released = false } in
     let rest = c.not_earlier_than-asked-items in
     let one = get_or rest.result.now c.loop-asked.asked-index d in
-    let in_front = (rest.ensures.of_these one (there_at rest.result.now c.loop-asked.asked-index d c.loop-asked-test.true)).0 in
+    let in_front = (rest.ensures.of_these one (Contains-get_or rest.result.now c.loop-asked.asked-index d c.loop-asked-test.true)).0 in
     let there = front_in (line c.self.inside.lines c.args.object) one (subst (λ xs. Contains xs one) c.front.ensures.requests in_front) in
     let long = asks_of_works arc_value g.W.Work.meaning.requests c.self.inside.works.items in
     let below = asked_in_plan _ (λ i. is_released (status_of c.self.inside.history.items i)) c.self.inside.lines c.args.object one c.self.invariant.0.tied there in
