@@ -1,45 +1,21 @@
 -- The released writers of an object are a front of its writers, and the last of them tells them from the others.
-use Rattle.std.proofs.Common.{◌≡◌, ◌≢◌, ◌+◌, ◌<◌, ◌≤◌, ℕ, zero, suc, Bool, true, false, List, [], ◌∷◌, length, Some, option_map, unwrap_or, get_or, filter, AllPairs, Contains, ltb, nat_eq, lt-ltb, le-ltb, refl, sym, ◌∙◌, ap, subst, arith, inl, inr, ◌⊎◌}
+use Rattle.std.proofs.Common.{◌≡◌, ◌≢◌, ◌+◌, ◌<◌, ◌≤◌, ℕ, suc, Bool, true, false, List, [], ◌∷◌, length, Some, option_map, unwrap_or, get_or, filter, AllPairs, Contains, ltb, nat_eq, lt-ltb, le-ltb, refl, sym, ◌∙◌, ap, subst, arith, inl, inr, ◌⊎◌}
 use Rattle.std.specs.List.{range_with_len, last_or}
 use Rattle.std.proofs.lemmas.Bool.Decides.{eqb_tells, leb_tells}
 use Rattle.std.proofs.lemmas.List.{get_or_past}
 use Rattle.std.proofs.lemmas.List.FromFn.{length-range_with_len, get_or-range_with_len}
 use Rattle.std.proofs.lemmas.List.Kept.{AllPairs-filter}
+use Rattle.pooma_logic.proofs.Ascending.{ascending_first, ascending_rest}
+use Rattle.pooma_logic.proofs.Elements.{contains_cases, contains_first, contains_rest}
+use Rattle.pooma_logic.proofs.Tested.{contains_kept, kept_passes, none_kept}
 use Rattle.pooma_queue.specs.declared.queue.Mode.TheVariants.{Write}
 use Rattle.pooma_machine.specs.declared.step.Request.{Request}
 use Rattle.pooma_machine.specs.declared.step.Event.{Event}
 use Rattle.pooma_machine.specs.Steps.{requests_of, status_of, is_released}
 use Rattle.pooma_law.specs.Writers.{asks_to_write, writers, released_writers, IsFront, up_to_last}
-use Rattle.pooma_law.proofs.Lending.{contains_first, contains_rest, asks_contains}
+use Rattle.pooma_law.proofs.Lending.{asks_contains}
 use Rattle.pooma_law.proofs.Statuses.{IsSteady, released_has_seat}
 use Rattle.pooma_law.proofs.Agreement.{AreReleasedBelow, not_true}
-
-contains_cases : (x : ℕ) (xs : List ℕ) (y : ℕ) → Contains (x ∷ xs) y → (y ≡ x) ⊎ Contains xs y
-contains_cases x xs y (zero, h, e) = inl (sym e)
-contains_cases x xs y (suc k, h, e) = inr (k, omega arith, e)
-
--- what a filter has
-filter_has : (test : ℕ → Bool) (xs : List ℕ) (x : ℕ) → Contains xs x → test x ≡ true → Contains (filter test xs) x
-filter_has test [] x (k, h, e) passes = absurd (omega arith)
-filter_has test (y ∷ xs) x there passes = by (λ more. filter_has test xs x more passes) (test y) refl (contains_cases y xs x there)
-  where
-    by : (Contains xs x → Contains (filter test xs) x) → (b : Bool) → test y ≡ b → (x ≡ y) ⊎ Contains xs x → Contains (filter test (y ∷ xs)) x
-    by again true t (inl e) = rw (t, e) (contains_first y (filter test xs))
-    by again true t (inr more) = rw t (contains_rest y (filter test xs) x (again more))
-    by again false t (inl e) = absurd (cc (sym t ∙ (ap test (sym e) ∙ passes)))
-    by again false t (inr more) = rw t (again more)
-
-has_filter : (test : ℕ → Bool) (xs : List ℕ) (x : ℕ) → Contains (filter test xs) x → Contains xs x × (test x ≡ true)
-has_filter test [] x there = (there, let none = there.1 in absurd (omega arith))
-has_filter test (y ∷ xs) x there = by (λ more. let r = has_filter test xs x more in (contains_rest y xs x r.0, r.1)) (test y) refl
-  where
-    by : (Contains (filter test xs) x → Contains (y ∷ xs) x × (test x ≡ true)) → (b : Bool) → test y ≡ b → Contains (y ∷ xs) x × (test x ≡ true)
-    by again true t =
-        elim (contains_cases y (filter test xs) x (rw t at there)) [
-          | inl e ↦ (subst (Contains (y ∷ xs)) (sym e) (contains_first y xs), ap test e ∙ t)
-          | inr more ↦ again more
-        ]
-    by again false t = again (rw t at there)
 
 abbrev IsAscending : List ℕ → Type 0
 IsAscending xs = AllPairs (λ a b. a < b) xs
@@ -48,33 +24,23 @@ IsAscending xs = AllPairs (λ a b. a < b) xs
 abbrev PassesFront : (ℕ → Bool) → List ℕ → Type 0
 PassesFront test xs = (a b : ℕ) → Contains xs a → Contains xs b → a < b → test b ≡ true → test a ≡ true
 
-tail_ascends : (x : ℕ) (xs : List ℕ) → IsAscending (x ∷ xs) → IsAscending xs
-tail_ascends x xs all i j d before within = all (suc i) (suc j) d (omega arith) (omega arith)
-
-head_below : (x : ℕ) (xs : List ℕ) → IsAscending (x ∷ xs) → (y : ℕ) → Contains xs y → x < y
-head_below x xs all y (k, h, e) = let below : x < get_or xs k y = all 0 (suc k) y (omega arith) (omega arith) in omega arith
-
-none_pass : (test : ℕ → Bool) (xs : List ℕ) → ((x : ℕ) → Contains xs x → test x ≡ false) → filter test xs ≡ []
-none_pass test [] none = refl
-none_pass test (x ∷ xs) none = rw (none x (contains_first x xs)) (none_pass test xs (λ y there. none y (contains_rest x xs y there)))
-
 front_passes : (test : ℕ → Bool) (xs : List ℕ) → IsAscending xs → PassesFront test xs → IsFront (filter test xs) xs
 front_passes test [] ascends front = refl
-front_passes test (x ∷ xs) ascends front = by (front_passes test xs (tail_ascends x xs ascends) (λ a b at bt. front a b (contains_rest x xs a at) (contains_rest x xs b bt))) (test x) refl
+front_passes test (x ∷ xs) ascends front = by (front_passes test xs (ascending_rest x xs ascends) (λ a b at bt. front a b (contains_rest x xs a at) (contains_rest x xs b bt))) (test x) refl
   where
     by : IsFront (filter test xs) xs → (b : Bool) → test x ≡ b → IsFront (filter test (x ∷ xs)) (x ∷ xs)
     by again true t = rw t (ap (λ zs. x ∷ zs) again)
     by again false t =
         let none : filter test xs ≡ [] =
-        none_pass test xs (λ y there. not_true (test y) (λ passes. absurd (cc (sym t ∙ front x y (contains_first x xs) (contains_rest x xs y there) (head_below x xs ascends y there) passes)))) in
+        none_kept test xs (λ y there. not_true (test y) (λ passes. absurd (cc (sym t ∙ front x y (contains_first x xs) (contains_rest x xs y there) (ascending_first x xs y ascends there) passes)))) in
         rw (t, none) refl
 
 -- the last element of a list that ascends is the greatest
 last_is : (x : ℕ) (xs : List ℕ) → IsAscending (x ∷ xs) → (z : ℕ) × (last_or (Some x) xs ≡ Some z) × Contains (x ∷ xs) z × ((y : ℕ) → Contains (x ∷ xs) y → y ≤ z)
 last_is x [] ascends = (x, refl, contains_first x [], λ y there. elim (contains_cases x [] y there) [ inl e ↦ omega arith | inr more ↦ let none = more.1 in absurd (omega arith) ])
 last_is x (y ∷ ys) ascends =
-    let rest = last_is y ys (tail_ascends x (y ∷ ys) ascends) in
-    let below : x < y = head_below x (y ∷ ys) ascends y (contains_first y ys) in
+    let rest = last_is y ys (ascending_rest x (y ∷ ys) ascends) in
+    let below : x < y = ascending_first x (y ∷ ys) y ascends (contains_first y ys) in
     let least : y ≤ rest.0 = rest.3 y (contains_first y ys) in (
       rest.0,
       rest.1,
@@ -87,13 +53,13 @@ passes_below : (test : ℕ → Bool) (xs : List ℕ) → IsAscending xs → Pass
 passes_below test xs ascends front x there = by (filter test xs) refl
   where
     among : (ys : List ℕ) → filter test xs ≡ ys → test x ≡ true → Contains ys x
-    among ys e passes = subst (λ zs. Contains zs x) e (filter_has test xs x there passes)
+    among ys e passes = subst (λ zs. Contains zs x) e (contains_kept test xs x there passes)
 
     by : (ys : List ℕ) → filter test xs ≡ ys → test x ≡ ltb x (up_to_last ys)
     by [] e = not_true (test x) (λ passes. let none = (among [] e passes).1 in absurd (omega arith)) ∙ sym (le-ltb x 0 (omega arith))
     by (y ∷ ys) e =
         let last = last_is y ys (subst IsAscending e (AllPairs-filter (λ a b. a < b) test xs ascends)) in
-        let of_last = has_filter test xs last.0 (subst (λ zs. Contains zs last.0) (sym e) last.2) in
+        let of_last = kept_passes test xs last.0 (subst (λ zs. Contains zs last.0) (sym e) last.2) in
         let up : up_to_last (y ∷ ys) ≡ suc last.0 = ap (λ o. unwrap_or (option_map suc o) 0) last.1 in
         rw up (elim (leb_tells x last.0) [
           | inl t ↦ below of_last.0 of_last.1 (eqb_tells x last.0) t.1 ∙ sym (lt-ltb x (suc last.0) (omega (arith, t.1)))
@@ -125,14 +91,14 @@ is_writer : (plan : List (List Request)) (o i : ℕ) → asks_to_write (requests
 is_writer plan o i writes =
     elim (leb_tells (length plan) i) [
       | inl t ↦ absurd (cc (sym (ap (λ rs. asks_to_write rs o) (get_or_past plan i [] t.1)) ∙ writes))
-      | inr f ↦ filter_has (λ j. asks_to_write (requests_of plan j) o) (range_with_len 0 (length plan)) i (range_has (length plan) i f.1) writes
+      | inr f ↦ contains_kept (λ j. asks_to_write (requests_of plan j) o) (range_with_len 0 (length plan)) i (range_has (length plan) i f.1) writes
     ]
 
 writers_in_turn : (plan : List (List Request)) (history : List Event) (o : ℕ) → IsSteady plan history → PassesFront (λ j. is_released (status_of history j)) (writers plan o)
 writers_in_turn plan history o steady a b at bt before released =
     let test : ℕ → Bool = λ j. asks_to_write (requests_of plan j) o in
-    let one = asks_contains (requests_of plan a) o (has_filter test (range_with_len 0 (length plan)) a at).1 in
-    let other = asks_contains (requests_of plan b) o (has_filter test (range_with_len 0 (length plan)) b bt).1 in
+    let one = asks_contains (requests_of plan a) o (kept_passes test (range_with_len 0 (length plan)) a at).1 in
+    let other = asks_contains (requests_of plan b) o (kept_passes test (range_with_len 0 (length plan)) b bt).1 in
     steady.passed b (released_has_seat (status_of history b) released) a before
     (o, record { one = Write; other = Write; asks_one = one; asks_other = other; conflicting = refl })
 

@@ -2,18 +2,13 @@
 use Rattle.std.proofs.Common.{◌≡◌, ℕ, Bool, true, false, List, [], ◌∷◌, option_and_then, filter_map, slice_get, Contains, refl, ap₂, arith, inl, inr}
 use Rattle.std.specs.List.{cons_option}
 use Rattle.std.proofs.lemmas.Bool.Decides.{eqb_tells}
+use Rattle.pooma_logic.proofs.Elements.{contains_first, contains_rest}
 use Rattle.pooma_queue.specs.declared.queue.Mode.{Mode}
 use Rattle.pooma_queue.specs.declared.queue.Mode.TheVariants.{Read, Write}
 use Rattle.pooma_queue.specs.Requests.{conflicts}
 use Rattle.pooma_machine.specs.declared.step.Request.{Request}
 use Rattle.pooma_machine.specs.Values.{Lent, lent_by, written_object, read_objects, is_write, is_read}
 use Rattle.pooma_law.specs.Writers.{asks_to_write}
-
-pub contains_first : {X : Type 0} (x : X) (xs : List X) → Contains (x ∷ xs) x
-contains_first x xs = (0, omega arith, refl)
-
-pub contains_rest : {X : Type 0} (x : X) (xs : List X) (y : X) → Contains xs y → Contains (x ∷ xs) y
-contains_rest x xs y (k, h, e) = (ℕ.suc k, omega arith, e)
 
 write_mode : (mode : Mode) → is_write mode ≡ true → mode ≡ Write
 write_mode Read e = absurd (cc e)
