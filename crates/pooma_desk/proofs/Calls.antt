@@ -1,9 +1,11 @@
 -- What the calls of a pass rest on: which event may be noted, and what the machine is asked for a release.
-use Rattle.std.proofs.Common.{◌≡◌, ℕ, zero, suc, Bool, true, false, List, [], ◌∷◌, ◌++◌, drop, Contains, refl, sym, ap, ◌∙◌, subst, ◌⊎◌, inl, inr, arith, append_assoc}
+use Rattle.std.proofs.Common.{◌≡◌, ℕ, zero, suc, true, false, List, [], ◌∷◌, ◌++◌, drop, Contains, sym, ap, ◌∙◌, subst, ◌⊎◌, inl, inr, arith, append_assoc}
 use Rattle.std.proofs.lemmas.List.{map-append}
 use Rattle.std.specs.Prelude.{Some, IsTrue, slice_get}
 use Rattle.std.proofs.lemmas.List.Elements.{Contains-append_left, Contains-append_right, Contains-append_cases}
 use Rattle.atomic_table.specs.Seated.{TableId}
+use Rattle.pooma_logic.proofs.Elements.{contains_image, contains_map, contains_none}
+use Rattle.pooma_logic.proofs.Tested.{contains_kept, kept_passes}
 use Rattle.pooma_machine.specs.declared.step.Event.{Event}
 use Rattle.pooma_machine.specs.declared.step.EventKind.{EventKind}
 use Rattle.pooma_machine.specs.declared.step.EventKind.TheVariants as kind
@@ -14,7 +16,7 @@ use Rattle.pooma_desk.specs.Seen.{events_of, history_after, is_one_of, calls_und
 use Rattle.pooma_desk.specs.Rule.{IsPair, MayNote, first_of}
 use Rattle.pooma_desk.specs.Tokens.{Token, Looks, HasOut, own_calls, token_of, called, requested}
 use Rattle.pooma_desk.specs.Turns.{IsPlaced}
-use Rattle.pooma_desk.proofs.Fronts.{contains_first, contains_rest, nothing_there, one_of_first}
+use Rattle.pooma_desk.proofs.Fronts.{one_of_first}
 use Rattle.pooma_desk.proofs.Fitting.{own_seat}
 use Rattle.pooma_desk.proofs.Turning.{whole_row}
 
@@ -31,47 +33,24 @@ pub record IsCut {X : Type 0} (xs : List X) (x : X) : Type 0 where
   pub is : xs ≡ before ++ x ∷ behind
 
 pub cut_at : {X : Type 0} (xs : List X) (x : X) → Contains xs x → IsCut xs x
-cut_at [] x there = absurd (nothing_there x there)
+cut_at [] x there = absurd (contains_none x there)
 cut_at (y ∷ xs) x (zero, h, e) = record { before = []; behind = xs; is = ap (λ z. z ∷ xs) e }
 cut_at (y ∷ xs) x (suc k, h, e) = let r = cut_at xs x (k, omega arith, e) in record { before = y ∷ r.before; behind = r.behind; is = ap (λ zs. y ∷ zs) r.is }
 
 module _ {W : Type 0} where
   pub event_there : (seen : List (Noted W)) (n : Noted W) → Contains seen n → Contains (events_of seen) n.event
-  event_there [] n there = absurd (nothing_there n there)
-  event_there (m ∷ seen) n (zero, h, e) = subst (λ z. Contains (m.event ∷ events_of seen) z) (ap (λ (z : Noted W). z.event) e) (contains_first m.event (events_of seen))
-  event_there (m ∷ seen) n (suc k, h, e) = contains_rest m.event (events_of seen) n.event (event_there seen n (k, omega arith, e))
+  event_there seen n there = contains_map (λ (m : Noted W). m.event) seen n there
 
   -- an event of the list stands in it with its work, if it has one
   pub noted_there : (seen : List (Noted W)) (event : Event) → Contains (events_of seen) event → (n : Noted W) × Contains seen n × (n.event ≡ event)
-  noted_there [] event there = absurd (nothing_there event there)
-  noted_there (m ∷ seen) event (zero, h, e) = (m, contains_first m seen, e)
-  noted_there (m ∷ seen) event (suc k, h, e) = let r = noted_there seen event (k, omega arith, e) in (r.0, contains_rest m seen r.0 r.1, r.2)
+  noted_there seen event there = let r = contains_image (λ (n : Noted W). n.event) seen event there in (r.0, r.1, sym r.2)
 
   -- the calls of some seats are those that stand under one of them
   pub under_there : (seats : List ℕ) (seen : List (Noted W)) (n : Noted W) → Contains seen n → is_one_of seats n.event.seat ≡ true → Contains (calls_under seats seen) n
-  under_there seats [] n there is = absurd (nothing_there n there)
-  under_there seats (m ∷ seen) n there is = by (λ more. under_there seats seen n more is) (is_one_of seats m.event.seat) refl there
-    where
-      by : (Contains seen n → Contains (calls_under seats seen) n) → (b : Bool) → is_one_of seats m.event.seat ≡ b → Contains (m ∷ seen) n → Contains (calls_under seats (m ∷ seen)) n
-      by again true t (zero, h, e) = rw t (subst (λ z. Contains (z ∷ calls_under seats seen) n) (sym e) (contains_first n (calls_under seats seen)))
-      by again true t (suc k, h, e) = rw t (contains_rest m (calls_under seats seen) n (again (k, omega arith, e)))
-      by again false t (zero, h, e) = absurd (off (sym t ∙ (ap (λ (z : Noted W). is_one_of seats z.event.seat) e ∙ is)))
-        where
-          off : false ≡ true → ⊥
-          off p = cc
-      by again false t (suc k, h, e) = rw t (again (k, omega arith, e))
+  under_there seats seen n there is = contains_kept (λ (m : Noted W). is_one_of seats m.event.seat) seen n there is
 
   pub there_under : (seats : List ℕ) (seen : List (Noted W)) (n : Noted W) → Contains (calls_under seats seen) n → Contains seen n × (is_one_of seats n.event.seat ≡ true)
-  there_under seats [] n there = absurd (nothing_there n there)
-  there_under seats (m ∷ seen) n there = by (λ more. there_under seats seen n more) (is_one_of seats m.event.seat) refl
-    where
-      by : (Contains (calls_under seats seen) n → Contains seen n × (is_one_of seats n.event.seat ≡ true)) → (b : Bool) → is_one_of seats m.event.seat ≡ b → Contains (m ∷ seen) n × (is_one_of seats n.event.seat ≡ true)
-      by again true t = first (rw t at there)
-        where
-          first : Contains (m ∷ calls_under seats seen) n → Contains (m ∷ seen) n × (is_one_of seats n.event.seat ≡ true)
-          first (zero, h, e) = ((0, omega arith, e), ap (λ (z : Noted W). is_one_of seats z.event.seat) (sym e) ∙ t)
-          first (suc k, h, e) = let r = again (k, omega arith, e) in (contains_rest m seen n r.0, r.1)
-      by again false t = let r = again (rw t at there) in (contains_rest m seen n r.0, r.1)
+  there_under seats seen n there = kept_passes (λ (m : Noted W). is_one_of seats m.event.seat) seen n there
 
   -- an event of a list of what happened, as an event of an entry at a seat
   pub as_event : (n : Noted W) (act : EventKind) (entry : ℕ) → n.event.kind ≡ act → n.event.entry ≡ entry → n.event ≡ event_of act entry n.event.seat

@@ -2,6 +2,7 @@
 use Rattle.std.proofs.Common.{◌≡◌, ◌<◌, ℕ, true, false, List, [], ◌∷◌, ◌++◌, Contains, min, refl, sym, ap, ◌∙◌, subst, inl, inr, arith}
 use Rattle.std.proofs.lemmas.Bool.{false_from_ne_true}
 use Rattle.std.proofs.lemmas.List.Elements.{Contains-append_left, Contains-append_right, Contains-push_cases}
+use Rattle.pooma_logic.proofs.Elements.{contains_none}
 use Rattle.pooma_machine.specs.declared.step.EventKind.TheVariants as kind
 use Rattle.pooma_desk.specs.declared.sight.Noted.{Noted}
 use Rattle.pooma_desk.specs.Sight.{Began}
@@ -9,7 +10,7 @@ use Rattle.pooma_desk.specs.Sight.{Sight}
 use Rattle.pooma_desk.specs.Seen.{is_one_of, HasSeen}
 use Rattle.pooma_desk.specs.Rule.{IsSeatOf, IsPair, Fits, AreApart, MayNote}
 use Rattle.pooma_desk.specs.Steps.{first_sight, given_away, newcomer, joining, joined, taking, noting, leaving}
-use Rattle.pooma_desk.proofs.Fronts.{one_of_both, one_of_left, one_of_right, one_of_one, seen_grows, seen_all, seen_none, merged, nothing_there}
+use Rattle.pooma_desk.proofs.Fronts.{one_of_both, one_of_left, one_of_right, one_of_one, seen_grows, seen_all, seen_none, merged}
 
 module _ {W : Type 0} where
   -- no event is a dispatch and a release
@@ -84,9 +85,9 @@ module _ {W V : Type 0} where
       told = seen_none [];
       next = omega arith;
       given = λ s is. first s is;
-      named = λ n there. absurd (nothing_there n there);
+      named = λ n there. absurd (contains_none n there);
       more = omega arith;
-      pairs = λ d r at_d at_r pair mine. absurd (nothing_there d at_d);
+      pairs = λ d r at_d at_r pair mine. absurd (contains_none d at_d);
     }
       where
         first : (s : ℕ) → IsSeatOf (first_sight start) s → s < 1

@@ -1,24 +1,13 @@
 -- Lists of what happened, fronts of them, and the calls of some seats among them.
-use Rattle.std.proofs.Common.{◌≡◌, ◌≤◌, ◌==◌, ℕ, suc, Bool, true, false, List, [], ◌∷◌, ◌++◌, length, filter, Contains, cond, eq-eqb, ltb, ltb-true, ltb-false, le-ltb, refl, sym, ap, ◌∙◌, subst, ◌⊎◌, inl, inr, arith, append_assoc, append-nil}
-use Rattle.std.proofs.lemmas.Bool.{or_cases, or_from, or_left, or_right}
+use Rattle.std.proofs.Common.{◌≡◌, ◌≤◌, ◌==◌, ℕ, Bool, true, false, List, [], ◌∷◌, ◌++◌, length, Contains, cond, eq-eqb, ltb, ltb-true, ltb-false, le-ltb, refl, sym, ap, ◌∙◌, subst, ◌⊎◌, inl, inr, arith, append_assoc, append-nil}
+use Rattle.std.proofs.lemmas.Bool.{or_from}
 use Rattle.std.proofs.lemmas.Bool.Decides.{nat_tests}
 use Rattle.std.proofs.lemmas.List.Elements.{filter-append, Contains-append_left, Contains-append_right, Contains-push_cases}
 use Rattle.std.proofs.lemmas.List.Folds.{list_any-append}
+use Rattle.pooma_logic.proofs.Elements.{contains_none}
+use Rattle.pooma_logic.proofs.Tested.{any_of_both, any_of_first, any_of_left, any_of_right, none_kept}
 use Rattle.pooma_desk.specs.declared.sight.Noted.{Noted}
 use Rattle.pooma_desk.specs.Seen.{is_one_of, calls_under, longer, HasSeen}
-
-pub contains_first : {X : Type 0} (x : X) (xs : List X) → Contains (x ∷ xs) x
-contains_first x xs = (0, omega arith, refl)
-
-pub contains_rest : {X : Type 0} (x : X) (xs : List X) (y : X) → Contains xs y → Contains (x ∷ xs) y
-contains_rest x xs y (k, h, e) = (suc k, omega arith, e)
-
-pub nothing_there : {X : Type 0} (y : X) → Contains [] y → ⊥
-nothing_there y (k, h, e) = omega arith
-
-pub none_pass : {X : Type 0} (test : X → Bool) (xs : List X) → ((x : X) → Contains xs x → test x ≡ false) → filter test xs ≡ []
-none_pass test [] none = refl
-none_pass test (x ∷ xs) none = rw (none x (contains_first x xs)) (none_pass test xs (λ y there. none y (contains_rest x xs y there)))
 
 -- two fronts of one list: the longer goes on from the shorter
 pub record GoesOn {X : Type 0} (one low other high : List X) : Type 0 where
@@ -41,13 +30,13 @@ longer_alone xs = rw (le-ltb (length xs) 0 (omega arith)) refl
 
 -- whether a number is one of two rows of seats
 pub one_of_both : (xs ys : List ℕ) (s : ℕ) → is_one_of (xs ++ ys) s ≡ true → (is_one_of xs s ≡ true) ⊎ (is_one_of ys s ≡ true)
-one_of_both xs ys s is = or_cases (is_one_of xs s) (is_one_of ys s) (sym (list_any-append (λ x. x == s) xs ys) ∙ is)
+one_of_both xs ys s is = any_of_both (λ x. x == s) xs ys is
 
 pub one_of_left : (xs ys : List ℕ) (s : ℕ) → is_one_of xs s ≡ true → is_one_of (xs ++ ys) s ≡ true
-one_of_left xs ys s is = list_any-append (λ x. x == s) xs ys ∙ or_left (is_one_of xs s) (is_one_of ys s) is
+one_of_left xs ys s is = any_of_left (λ x. x == s) xs ys is
 
 pub one_of_right : (xs ys : List ℕ) (s : ℕ) → is_one_of ys s ≡ true → is_one_of (xs ++ ys) s ≡ true
-one_of_right xs ys s is = list_any-append (λ x. x == s) xs ys ∙ or_right (is_one_of xs s) (is_one_of ys s) is
+one_of_right xs ys s is = any_of_right (λ x. x == s) xs ys is
 
 pub one_of_neither : (xs ys : List ℕ) (s : ℕ) → is_one_of xs s ≡ false → is_one_of ys s ≡ false → is_one_of (xs ++ ys) s ≡ false
 one_of_neither xs ys s first second = list_any-append (λ x. x == s) xs ys ∙ or_from (is_one_of xs s) (is_one_of ys s) first second
@@ -56,7 +45,7 @@ pub one_of_one : (a s : ℕ) → is_one_of (a ∷ []) s ≡ true → s ≡ a
 one_of_one a s is = grind (arith, nat_tests)
 
 pub one_of_first : (a : ℕ) (xs : List ℕ) → is_one_of (a ∷ xs) a ≡ true
-one_of_first a xs = or_left (a == a) (is_one_of xs a) (eq-eqb a a refl)
+one_of_first a xs = any_of_first (λ x. x == a) a xs (eq-eqb a a refl)
 
 module _ {W : Type 0} where
   -- what was seen stays seen as the list grows by what is called elsewhere
@@ -72,7 +61,7 @@ module _ {W : Type 0} where
   }
 
   pub seen_all : (seats : List ℕ) (log : List (Noted W)) → HasSeen seats log log
-  seen_all seats log = record { rest = []; begins = sym (append-nil log); others = λ n there. absurd (nothing_there n there) }
+  seen_all seats log = record { rest = []; begins = sym (append-nil log); others = λ n there. absurd (contains_none n there) }
 
   -- with no seat and nothing seen
   pub seen_none : (log : List (Noted W)) → HasSeen [] [] log
@@ -130,7 +119,7 @@ module _ {W : Type 0} where
   calls_stay seats seen log h =
       ap (calls_under seats) h.begins
       ∙ (filter-append (λ (n : Noted W). is_one_of seats n.event.seat) seen h.rest
-      ∙ (ap (λ l. calls_under seats seen ++ l) (none_pass (λ (n : Noted W). is_one_of seats n.event.seat) h.rest h.others) ∙ append-nil (calls_under seats seen)))
+      ∙ (ap (λ l. calls_under seats seen ++ l) (none_kept (λ (n : Noted W). is_one_of seats n.event.seat) h.rest h.others) ∙ append-nil (calls_under seats seen)))
 
   pub calls_more : (seats : List ℕ) (log : List (Noted W)) (n : Noted W) → is_one_of seats n.event.seat ≡ true → calls_under seats (log ++ n ∷ []) ≡ calls_under seats log ++ n ∷ []
   calls_more seats log n is = filter-append (λ (m : Noted W). is_one_of seats m.event.seat) log (n ∷ []) ∙ rw is refl

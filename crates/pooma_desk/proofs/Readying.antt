@@ -5,6 +5,7 @@ use Rattle.std.proofs.lemmas.List.Elements.{filter_map-append}
 use Rattle.std.specs.Prelude.{Option, Some, None, IsSome, ◌↔◌, slice_get}
 use Rattle.atomic_table.specs.Table.{Me}
 use Rattle.atomic_table.specs.Seated.{TableId}
+use Rattle.pooma_logic.proofs.Elements.{contains_none}
 use Rattle.pooma_machine.specs.declared.step.Request.{Request}
 use Rattle.pooma_machine.specs.declared.step.Event.{Event}
 use Rattle.pooma_machine.specs.declared.step.EventKind.TheVariants as kind
@@ -16,7 +17,6 @@ use Rattle.pooma_desk.specs.Sight.{Sight}
 use Rattle.pooma_desk.specs.Seen.{events_of, works_of, plan_after, history_after}
 use Rattle.pooma_desk.specs.Steps.{noting}
 use Rattle.pooma_desk.specs.Readied.{EndsWith, IsReadied, IsLeastReadied, NoneReadied}
-use Rattle.pooma_desk.proofs.Fronts.{nothing_there}
 use Rattle.pooma_desk.specs.Tokens.{Token, plan_of, history_of, token_of, called}
 
 -- an entry that may be dispatched is one of those that were issued
@@ -57,7 +57,7 @@ first_is_readied plan before history event woken j is (k ∷ ks, list, names) fi
 
 -- where none is named, none became ready
 pub none_is_readied : (plan : List (List Request)) (before history : List Event) (event : Event) (woken : Woken) → history ≡ before ++ event ∷ [] → TellsReady plan before history woken → ((j : ℕ) → slice_get woken.entries 0 ≡ Some j → ⊥) → NoneReadied plan before event
-none_is_readied plan before history event woken is ([], list, names) none = λ j readied. nothing_there j ((list.exactly j).1 (of_readied plan before history event j is readied))
+none_is_readied plan before history event woken is ([], list, names) none = λ j readied. contains_none j ((list.exactly j).1 (of_readied plan before history event j is readied))
 none_is_readied plan before history event woken is (k ∷ ks, list, names) none = absurd (none k (ap (λ l. slice_get l 0) names.0))
 
 module _ {W V : Type 0} where

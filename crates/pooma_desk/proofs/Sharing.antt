@@ -6,6 +6,7 @@ use Rattle.std.proofs.lemmas.Bool.{cond_both, false_from_ne_true}
 use mathlib.Core.Option.{none}
 use Rattle.atomic_table.specs.Table.{Me, step, Allows}
 use Rattle.atomic_table.specs.Seated.{TableId}
+use Rattle.pooma_logic.proofs.Tested.{none_kept}
 use Rattle.pooma_machine.specs.Values.{Account, Meaning}
 use Rattle.pooma_machine.specs.Steps.{issued}
 use Rattle.pooma_law.specs.Histories.{IsHistoryOf}
@@ -16,7 +17,7 @@ use Rattle.pooma_desk.specs.Rule.{IsLive, Fits, IsKept, first_of}
 use Rattle.pooma_desk.specs.Steps.{given_away, newcomer, joining, joined, HasJoined, Joins}
 use Rattle.pooma_desk.specs.Tokens.{Token, GoesOn, keeping, own_calls, token_of}
 use Rattle.pooma_desk.specs.Turns.{IsResting, IsSeenLegal, IsOutside}
-use Rattle.pooma_desk.proofs.Fronts.{none_pass, one_of_one, calls_stay}
+use Rattle.pooma_desk.proofs.Fronts.{one_of_one, calls_stay}
 use Rattle.pooma_desk.proofs.Fitting.{fits_given_away, fits_newcomer}
 use Rattle.pooma_desk.proofs.Moves.{tells_joined}
 use Rattle.pooma_desk.proofs.Turning.{whole_row}
@@ -74,7 +75,7 @@ module _ {W V : Type 0} where
   }
 
   pub newcomer_idle : (desk : TableId) (v : Sight W V) → Fits v.start v.seen v → own_calls (token_of desk (newcomer v)) ≡ []
-  newcomer_idle desk v h = none_pass (λ (n : Noted W). is_one_of (v.next ∷ []) n.event.seat) v.seen (λ n there. false_from_ne_true (is_one_of (v.next ∷ []) n.event.seat) (λ is. let e = one_of_one v.next n.event.seat is in let below = h.named n there in omega (arith, e, below)))
+  newcomer_idle desk v h = none_kept (λ (n : Noted W). is_one_of (v.next ∷ []) n.event.seat) v.seen (λ n there. false_from_ne_true (is_one_of (v.next ∷ []) n.event.seat) (λ is. let e = one_of_one v.next n.event.seat is in let below = h.named n there in omega (arith, e, below)))
 
   pub outside_given : {O S : Type 0} (meaning : Meaning W V O S) (me new : Place W V) (seat next : ℕ) → IsOutside meaning me seat next → me.0.next < me.0.start.seats → new ≡ (given_away me.0, me.1) → IsOutside meaning new seat (next + 1)
   outside_given meaning me new seat next h left is =
