@@ -6,6 +6,7 @@ use Rattle.std.proofs.lemmas.List.Elements.{All-contains, filter_map-append}
 use Rattle.std.specs.List.{cons_option}
 use Rattle.std.specs.Ordering.{int_eq}
 use Rattle.std.specs.Prelude.{◌≡◌, ◌≢◌, ℕ, ◌<◌, ◌≤◌, ℤ, pos, Bool, true, false, if◌then◌else◌, Option, Some, None, Ok, Err, List, [], ◌∷◌, ◌++◌, length, fold, flat_map, slice_set, Contains, All}
+use Rattle.pooma_logic.proofs.Members.{Member, contains_of, member_of}
 use Rattle.pooma_domain.specs.Cells.{Interval, cells_of, IsIn}
 use Rattle.pooma_view.specs.declared.slots.Slot.{Slot}
 use Rattle.pooma_view.specs.Slots.{cell_named, positions_of}
@@ -23,7 +24,7 @@ use Rattle.pooma_model.specs.Fit.{IsAssignFit}
 use Rattle.pooma_model.specs.Midway.{IsMidway, IsUnnamed}
 use Rattle.pooma_model.specs.Partitions.{IsPartition, StandOnce, changes_at, number_after}
 use Rattle.pooma_model.proofs.Changing.{OfNumbers, NamesApart, named_given, unnamed_kept, same_after}
-use Rattle.pooma_model.proofs.Lists.{Member, contains_of, member_of, distinct_by_places}
+use Rattle.pooma_model.proofs.Lists.{distinct_by_places}
 use Rattle.pooma_model.proofs.Partitioning.{OfCells, cells_once, is_in, is_cell, parts_once, same_cells}
 use Rattle.pooma_model.proofs.Reading.{OfLooking, own_number, all_left, all_right}
 

@@ -6,13 +6,14 @@ use Rattle.std.specs.Cmp.Rules.{signed_items}
 use Rattle.std.specs.List.{cons_option}
 use Rattle.std.specs.Ordering.{int_eq}
 use Rattle.std.specs.Prelude.{◌≡◌, ◌≢◌, ◌⊎◌, ◌↔◌, ℤ, Bool, true, false, List, [], ◌∷◌}
+use Rattle.pooma_logic.proofs.Members.{Member}
 use Rattle.pooma_domain.specs.Cells.{IsIn}
 use Rattle.pooma_view.specs.declared.slots.Slot.{Slot}
 use Rattle.pooma_view.specs.Slots.{cell_named}
 use Rattle.pooma_field.specs.Numbered.{Numbered, Change, number_at, with_number, with_changes, IsFull}
 use Rattle.pooma_model.specs.Assigning.{Given, Number, Nothing, Fails, change_of}
 use Rattle.pooma_model.specs.Partitions.{changes_at, number_after}
-use Rattle.pooma_model.proofs.Lists.{Member, Distinct}
+use Rattle.pooma_model.proofs.Lists.{Distinct}
 
 -- what the laws on numbers tell
 pub record OfNumbers : Type 0 where

@@ -6,6 +6,7 @@ use Rattle.std.proofs.lemmas.Int.{ints, by_lt_z}
 use Rattle.std.proofs.lemmas.List.{length-map}
 use Rattle.std.specs.List.{cons_option, filter, filter_map, list_any}
 use Rattle.std.specs.Prelude.{◌≡◌, ◌⊎◌, ℕ, zero, suc, ◌+◌, ◌-◌, ◌*◌, ◌==◌, ◌<◌, ℤ, pos, negsuc, ◌+ℤ◌, ◌-ℤ◌, ◌≤ℤ◌, ◌<ℤ◌, Bool, true, false, not, ◌||◌, Option, Some, None, List, [], ◌∷◌, ◌++◌, length, map, flat_map, slice_get, AllPairs, Contains}
+use Rattle.pooma_logic.proofs.Members.{Member, any_of, joined_member, member_cases, member_image, member_joined, member_map, member_of, of_any}
 use Rattle.pooma_domain.specs.Cells.{Interval, interval, axis_length, count_of, counting, IsBefore, IsIn}
 use Rattle.pooma_domain.specs.Operations.{HaveCommonCell}
 use Rattle.pooma_view.specs.declared.slots.Slot.{Slot}
@@ -18,8 +19,6 @@ use Rattle.pooma_layout.specs.Patches.{boxes_of, HaveSameParts}
 use Rattle.pooma_model.specs.Declarations.{Declared, layout_at}
 use Rattle.pooma_model.specs.Partitions.{IsPartition}
 use Rattle.pooma_model.specs.Parts.{borders_on, changes_part, cut_axes, parts_along, parts_of}
-use Rattle.pooma_model.proofs.Lists.{Member, member_of, member_cases}
-use Rattle.pooma_model.proofs.Partitioning.{any_of, of_any, joined_member, member_joined}
 
 -- ---- lists whose elements are apart
 
@@ -45,15 +44,6 @@ pairs_of R (x ∷ xs) s zero (suc j) d less below = s.0 (get_or xs j d) (there x
     there (y ∷ ys) (suc k) d h = inr (there ys k d (omega arith))
 pairs_of R (x ∷ xs) s (suc i) zero d less below = absurd (omega arith)
 pairs_of R (x ∷ xs) s (suc i) (suc j) d less below = pairs_of R xs s.1 i j d (omega arith) (omega arith)
-
-mapped : {A B : Type 0} (f : A → B) (xs : List A) (x : A) → Member xs x → Member (map f xs) (f x)
-mapped f [] x m = absurd m
-mapped f (y ∷ ys) x m = ⊎_elim (λ e. inl (ap f e)) (λ later. inr (mapped f ys x later)) m
-
-from_map : {A B : Type 0} (f : A → B) (xs : List A) (y : B) → Member (map f xs) y → (x : A) × Member xs x × (f x ≡ y)
-from_map f [] y m = absurd m
-from_map f (x ∷ xs) y m =
-    ⊎_elim (λ e. (x, inl refl, e)) (λ later. let found = from_map f xs y later in (found.0, inr found.1, found.2)) m
 
 -- ---- one axis
 
@@ -185,7 +175,7 @@ member_with : (parts : List Interval) (boxes : List (List Interval)) (box : List
     → (part : Interval) × (rest : List Interval) × Member parts part × Member boxes rest × (part ∷ rest ≡ box)
 member_with parts boxes box m =
     let found = joined_member (with_part parts) boxes box m in
-    let first = from_map (λ part. part ∷ found.0) parts box found.2 in
+    let first = member_image (λ part. part ∷ found.0) parts box found.2 in
     (first.0, found.0, first.1, found.1, first.2)
 
 boxes_cover : (cuts : List (List Interval)) (axes : List Interval) (p : List ℤ) → AreCuts cuts axes → IsIn axes p → (box : List Interval) × Member (boxes_of cuts) box × IsIn box p
@@ -197,7 +187,7 @@ boxes_cover (parts ∷ cuts) (axis ∷ axes) [] are h = absurd h
 boxes_cover (parts ∷ cuts) (axis ∷ axes) (x ∷ p) are h =
     let part = are.0.covers x (h.0, h.1) in
     let rest = boxes_cover cuts axes p are.1 h.2 in
-    (part.0 ∷ rest.0, member_joined (with_part parts) (boxes_of cuts) rest.0 (part.0 ∷ rest.0) rest.1 (mapped (λ i. i ∷ rest.0) parts part.0 part.1), (part.2.0, part.2.1, rest.2))
+    (part.0 ∷ rest.0, member_joined (with_part parts) (boxes_of cuts) rest.0 (part.0 ∷ rest.0) rest.1 (member_map (λ i. i ∷ rest.0) parts part.0 part.1), (part.2.0, part.2.1, rest.2))
 
 boxes_within : (cuts : List (List Interval)) (axes : List Interval) (p : List ℤ) (box : List Interval) → AreCuts cuts axes → Member (boxes_of cuts) box → IsIn box p → IsIn axes p
 boxes_within [] [] p box are m h = ⊎_elim (λ e. subst (λ b. IsIn b p) (sym e) h) (λ none. absurd none) m
@@ -231,7 +221,7 @@ rest_apart one other box rest none common = by common.0 common.1 common.2
 with_part_separate : (parts : List Interval) (box : List Interval) → Separate NoneCommon parts → Separate Apart (with_part parts box)
 with_part_separate [] box s = tt
 with_part_separate (part ∷ parts) box s = (
-  λ other m. let found = from_map (λ i. i ∷ box) parts other m in
+  λ other m. let found = member_image (λ i. i ∷ box) parts other m in
       subst (Apart (part ∷ box)) found.2 (first_apart box part found.0 (s.0 found.0 found.1)),
   with_part_separate parts box s.1,
 )
@@ -241,7 +231,7 @@ joined_separate parts [] s t = tt
 joined_separate parts (box ∷ boxes) s t =
     separate_joined Apart (with_part parts box) (flat_map (with_part parts) boxes) (with_part_separate parts box s) (joined_separate parts boxes s t.1)
     (λ one other m l.
-    let first = from_map (λ i. i ∷ box) parts one m in
+    let first = member_image (λ i. i ∷ box) parts one m in
     let found = member_with parts boxes other l in
     subst (λ b. Apart b other) first.2 (subst (Apart (first.0 ∷ box)) found.4 (rest_apart first.0 found.0 box found.1 (t.0 found.1 found.3))))
 
@@ -278,7 +268,7 @@ Begins one other = IsBefore (map (λ axis. axis.first) one) (map (λ axis. axis.
 with_part_begins : (parts : List Interval) (box : List Interval) → Separate (λ one other. one.first <ℤ other.first) parts → Separate Begins (with_part parts box)
 with_part_begins [] box s = tt
 with_part_begins (part ∷ parts) box s = (
-  λ other m. let found = from_map (λ i. i ∷ box) parts other m in
+  λ other m. let found = member_image (λ i. i ∷ box) parts other m in
       subst (Begins (part ∷ box)) found.2 (inr (refl, s.0 found.0 found.1)),
   with_part_begins parts box s.1,
 )
@@ -288,7 +278,7 @@ joined_begins parts [] s t = tt
 joined_begins parts (box ∷ boxes) s t =
     separate_joined Begins (with_part parts box) (flat_map (with_part parts) boxes) (with_part_begins parts box s) (joined_begins parts boxes s t.1)
     (λ one other m l.
-    let first = from_map (λ i. i ∷ box) parts one m in
+    let first = member_image (λ i. i ∷ box) parts one m in
     let found = member_with parts boxes other l in
     subst (λ b. Begins b other) first.2 (subst (Begins (first.0 ∷ box)) found.4 (inl (t.0 found.1 found.3))))
 

@@ -4,13 +4,13 @@ use Rattle.std.proofs.lemmas.Bool.{cases_lt}
 use Rattle.std.proofs.lemmas.Int.{ints}
 use Rattle.std.proofs.lemmas.Option.{same_Some, get_or_from_slice_get, slice_get_within}
 use Rattle.std.proofs.lemmas.List.Elements.{All-contains}
-use Rattle.std.specs.Prelude.{◌≡◌, ◌≢◌, ◌⊎◌, ℕ, zero, suc, ◌<◌, ◌≤◌, ℤ, ◌<ℤ◌, Option, Some, None, IfSome, List, [], ◌∷◌, length, slice_get, All, Any}
+use Rattle.std.specs.Prelude.{◌≡◌, ◌≢◌, ◌⊎◌, ℕ, zero, suc, ◌<◌, ◌≤◌, ℤ, ◌<ℤ◌, Option, Some, None, IfSome, List, [], ◌∷◌, slice_get, All, Any}
+use Rattle.pooma_logic.proofs.Members.{Member, all_members, any_of, contains_of, member_at, of_any, stands_at}
 use Rattle.pooma_num.specs.declared.fault.FaultKind.{FaultKind}
 use Rattle.pooma_domain.specs.Cells.{Interval, cells_of, IsBefore}
 use Rattle.pooma_model.specs.Assigning.{Fault, Given, Number, Nothing, Fails, Position, fault_of, found_or}
 use Rattle.pooma_model.specs.Partitions.{IsFirstFault, IsLeastFault, IsNotEarlier, IsPartition, fault_at}
-use Rattle.pooma_model.proofs.Lists.{Member, member_at, stands_at, member_of, contains_of}
-use Rattle.pooma_model.proofs.Partitioning.{OfCells, is_in, is_cell, any_of, of_any, part_with, within}
+use Rattle.pooma_model.proofs.Partitioning.{OfCells, is_in, is_cell, part_with, within}
 
 -- where in the order of the positions the fault is, and that none before it has one
 record FoundAt (given : List ℤ → Given) (ps : List (List ℤ)) (fault : Fault) : Type 0 where
@@ -160,17 +160,9 @@ if_some (Some x) P holds = holds x refl
 at_some : {X : Type 0} (o : Option X) (P : X → Type 0) (x : X) → o ≡ Some x → IfSome o P → P x
 at_some o P x is h = subst (λ q. IfSome q P) is h
 
-every : {X : Type 0} (P : X → Type 0) → (xs : List X) → ((x : X) → Member xs x → P x) → All P xs
-every P xs each k d below = each _ (member_of xs _ (k, below, at xs k d below))
-  where
-    at : {X : Type 0} (xs : List X) (k : ℕ) (d : X) → k < length xs → get_or xs k (get_or xs k d) ≡ get_or xs k d
-    at [] k d h = absurd (omega arith)
-    at (x ∷ xs) zero d h = refl
-    at (x ∷ xs) (suc k) d h = at xs k d (omega arith)
-
 module _ (known : OfCells) (given : List ℤ → Given) (whole : List Interval) (boxes : List (List Interval)) (parts : IsPartition whole boxes) where
   pub none_whole : fault_at given (cells_of whole) ≡ None → All (λ box. fault_at given (cells_of box) ≡ None) boxes
-  none_whole e = every (λ box. fault_at given (cells_of box) ≡ None) boxes
+  none_whole e = all_members (λ box. fault_at given (cells_of box) ≡ None) boxes
       (λ box m. all_fine given (cells_of box) (λ q kind l. none_fails given (cells_of whole) e q kind
       (is_cell known whole q (within known whole boxes parts box q m (is_in known box q l)))))
 
@@ -212,7 +204,7 @@ module _ (known : OfCells) (given : List ℤ → Given) (whole : List Interval) 
         position = f.position;
         place = f.place;
         has = least_there fault e;
-        least = every (λ box. IfSome (fault_at given (cells_of box)) (IsNotEarlier f.position)) boxes
+        least = all_members (λ box. IfSome (fault_at given (cells_of box)) (IsNotEarlier f.position)) boxes
             (λ box m. if_some (fault_at given (cells_of box)) (IsNotEarlier f.position) (none_earlier fault f.position f.place e box m));
       }
 

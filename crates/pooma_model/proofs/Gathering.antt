@@ -9,6 +9,7 @@ use Rattle.std.proofs.lemmas.Nat.Bits.{bit_at_or, same_from_bits}
 use Rattle.std.specs.Int.{w64, int_min, int_max, int_bit_and, int_bit_or, cast_signed, cast_unsigned}
 use Rattle.std.specs.List.{cons_option, list_all, list_any}
 use Rattle.std.specs.Prelude.{◌≡◌, ◌↔◌, ℕ, ◌+◌, ◌^◌, ◌<◌, ℤ, pos, negsuc, ◌+ℤ◌, int_lt, FitsSigned, bit_and, bit_or, Bool, true, false, Option, Some, None, Ok, List, [], ◌∷◌, ◌++◌, count_by, flat_map, fold, unwrap_or}
+use Rattle.pooma_logic.proofs.Members.{Member}
 use Rattle.pooma_domain.specs.Cells.{Interval, cells_of}
 use Rattle.pooma_expr.specs.declared.reduction.Reduction.{Reduction}
 use Rattle.pooma_expr.specs.declared.reduction.Reduction.TheVariants as of
@@ -16,7 +17,7 @@ use Rattle.pooma_expr.specs.Reductions.{AllFit, is_set, join_all, result_over, s
 use Rattle.pooma_expr.specs.Values.{Checked, exact, truth}
 use Rattle.pooma_model.specs.Partitions.{numbers_at}
 use Rattle.pooma_model.specs.Reducing.{number_in}
-use Rattle.pooma_model.proofs.Lists.{Member, Distinct, in_any_order}
+use Rattle.pooma_model.proofs.Lists.{Distinct, in_any_order}
 
 -- ---- the numbers of parts are those of all their positions
 

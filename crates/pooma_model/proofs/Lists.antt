@@ -1,33 +1,12 @@
 -- Lists in which each element stands once, and what is made of them in any order.
 use Rattle.std.proofs.Common.{refl, sym, ap, ◌∙◌, subst, inl, inr, ⊎_elim, arith}
-use Rattle.std.proofs.lemmas.Option.{same_Some, slice_get-get_or, slice_get_within, get_or_from_slice_get}
-use Rattle.std.specs.Prelude.{◌≡◌, ◌⊎◌, ◌↔◌, ℕ, zero, suc, Some, List, [], ◌∷◌, ◌++◌, slice_get, Contains}
-
-abbrev pub Member : {A : Type 0} → List A → A → Type 0
-Member [] x = ⊥
-Member (y ∷ ys) x = (y ≡ x) ⊎ Member ys x
+use Rattle.std.specs.Prelude.{◌≡◌, ◌⊎◌, ◌↔◌, ℕ, zero, suc, Some, List, [], ◌∷◌, ◌++◌, slice_get}
+use Rattle.pooma_logic.proofs.Members.{Member, member_cases, member_left, member_right, stands_at}
 
 -- no element stands in the list twice
 abbrev pub Distinct : {A : Type 0} → List A → Type 0
 Distinct [] = Unit {0}
 Distinct (x ∷ xs) = (Member xs x → ⊥) × Distinct xs
-
-pub member_at : {A : Type 0} (xs : List A) (k : ℕ) (x : A) → slice_get xs k ≡ Some x → Member xs x
-member_at [] k x at = cc
-member_at (y ∷ ys) zero x at = inl (same_Some y x at)
-member_at (y ∷ ys) (suc k) x at = inr (member_at ys k x at)
-
-pub stands_at : {A : Type 0} (xs : List A) (x : A) → Member xs x → (k : ℕ) × (slice_get xs k ≡ Some x)
-stands_at [] x m = absurd m
-stands_at (y ∷ ys) x m = ⊎_elim (λ e. (zero, ap Some e)) (λ later. let at = stands_at ys x later in (suc at.0, at.1)) m
-
-pub member_of : {A : Type 0} (xs : List A) (x : A) → Contains xs x → Member xs x
-member_of xs x h = member_at xs h.0 x (slice_get-get_or xs h.0 x h.1 ∙ ap Some h.2)
-
-pub contains_of : {A : Type 0} (xs : List A) (x : A) → Member xs x → Contains xs x
-contains_of xs x m =
-    let at = stands_at xs x m in
-    (at.0, slice_get_within xs at.0 x at.1, get_or_from_slice_get xs at.0 x x at.1)
 
 -- a list of which no element stands at two places
 pub distinct_by_places : {A : Type 0} (xs : List A) → ((j k : ℕ) (x : A) → slice_get xs j ≡ Some x → slice_get xs k ≡ Some x → j ≡ k) → Distinct xs
@@ -36,19 +15,6 @@ distinct_by_places (x ∷ xs) once = (
   λ m. let at = stands_at xs x m in let same : zero ≡ suc at.0 = once zero (suc at.0) x refl at.1 in absurd (omega arith),
   distinct_by_places xs (λ j k y at_j at_k. let same : suc j ≡ suc k = once (suc j) (suc k) y at_j at_k in omega arith),
 )
-
-pub member_left : {A : Type 0} (xs ys : List A) (x : A) → Member xs x → Member (xs ++ ys) x
-member_left [] ys x m = absurd m
-member_left (y ∷ xs) ys x m = ⊎_elim (λ e. inl e) (λ later. inr (member_left xs ys x later)) m
-
-pub member_right : {A : Type 0} (xs ys : List A) (x : A) → Member ys x → Member (xs ++ ys) x
-member_right [] ys x m = m
-member_right (y ∷ xs) ys x m = inr (member_right xs ys x m)
-
-pub member_cases : {A : Type 0} (xs ys : List A) (x : A) → Member (xs ++ ys) x → Member xs x ⊎ Member ys x
-member_cases [] ys x m = inr m
-member_cases (y ∷ xs) ys x m =
-    ⊎_elim (λ e. inl (inl e)) (λ later. ⊎_elim (λ l. inl (inr l)) (λ r. inr r) (member_cases xs ys x later)) m
 
 pub distinct_joined : {A : Type 0} (xs ys : List A) → Distinct xs → Distinct ys → ((x : A) → Member xs x → Member ys x → ⊥) → Distinct (xs ++ ys)
 distinct_joined [] ys dx dy apart = dy

@@ -7,11 +7,13 @@ use Rattle.std.proofs.lemmas.List.Sorted.{Contains-permutation, IsPermutation-ke
 use Rattle.std.proofs.lemmas.Option.{get_or_from_slice_get, slice_get_within}
 use Rattle.std.specs.List.{swap}
 use Rattle.std.specs.List.Sorted.{IsPermutation}
-use Rattle.std.specs.Prelude.{◌≡◌, ◌≢◌, ◌⊎◌, ◌↔◌, ℕ, zero, suc, ◌<◌, ℤ, Some, List, [], ◌∷◌, length, slice_get, Contains, flat_map, All, Any, AllPairs}
+use Rattle.std.specs.Prelude.{◌≡◌, ◌≢◌, ◌⊎◌, ◌↔◌, ℕ, ◌<◌, ℤ, Some, List, [], ◌∷◌, length, slice_get, Contains, flat_map, All, Any, AllPairs}
+use Rattle.pooma_logic.proofs.Members.{Member, any_of, contains_of, joined_member, member_at, member_joined, member_of, of_any}
+use Rattle.pooma_logic.proofs.Pairs.{pairs_rest, pairs_with_first}
 use Rattle.pooma_domain.specs.Cells.{Interval, cells_of, IsBefore, IsIn}
 use Rattle.pooma_domain.specs.Operations.{HaveCommonCell}
 use Rattle.pooma_model.specs.Partitions.{IsOfOthers, IsPartition}
-use Rattle.pooma_model.proofs.Lists.{Member, Distinct, stands_at, member_of, contains_of, member_left, member_right, member_cases, distinct_by_places, distinct_joined, member_at}
+use Rattle.pooma_model.proofs.Lists.{Distinct, distinct_by_places, distinct_joined}
 
 -- what the law on the order of cells tells
 pub record OfCells : Type 0 where
@@ -28,42 +30,14 @@ is_cell known box p h = member_of (cells_of box) p ((known.members box p).1 h)
 pub cells_once : OfCells → (box : List Interval) → Distinct (cells_of box)
 cells_once known box = distinct_by_places (cells_of box) (λ j k p at_j at_k. known.once box p j k at_j at_k)
 
-pub joined_member : {X A : Type 0} (f : X → List A) → (xs : List X) (y : A) → Member (flat_map f xs) y → (x : X) × Member xs x × Member (f x) y
-joined_member f [] y m = absurd m
-joined_member f (x ∷ xs) y m =
-    ⊎_elim (λ here. (x, inl refl, here))
-    (λ later. let found = joined_member f xs y later in (found.0, inr found.1, found.2))
-    (member_cases (f x) (flat_map f xs) y m)
-
-pub member_joined : {X A : Type 0} (f : X → List A) → (xs : List X) (x : X) (y : A) → Member xs x → Member (f x) y → Member (flat_map f xs) y
-member_joined f [] x y m n = absurd m
-member_joined f (z ∷ xs) x y m n =
-    ⊎_elim (λ e. member_left (f z) (flat_map f xs) y (subst (λ w. Member (f w) y) (sym e) n))
-    (λ later. member_right (f z) (flat_map f xs) y (member_joined f xs x y later n))
-    m
-
-pub any_of : {X : Type 0} (P : X → Type 0) → (xs : List X) → Any P xs → (x : X) × Member xs x × P x
-any_of P xs h = (h.1, member_of xs h.1 (h.0, h.2, h.3), h.4)
-
-pub of_any : {X : Type 0} (P : X → Type 0) → (xs : List X) (x : X) → Member xs x → P x → Any P xs
-of_any P xs x m p = let there = contains_of xs x m in (there.0, x, there.1, there.2, p)
-
-pub pairs_after : {X : Type 0} (R : X → X → Type 0) → (x : X) (xs : List X) → AllPairs R (x ∷ xs) → AllPairs R xs
-pairs_after R x xs all i j d h below = all (suc i) (suc j) d (omega arith) (omega arith)
-
-pub pairs_with_first : {X : Type 0} (R : X → X → Type 0) → (x : X) (xs : List X) → AllPairs R (x ∷ xs) → (y : X) → Member xs y → R x y
-pairs_with_first R x xs all y m =
-    let at = stands_at xs y m in
-    subst (R x) (get_or_from_slice_get xs at.0 y y at.1) (all zero (suc at.0) y (omega arith) (omega (arith, slice_get_within xs at.0 y at.1)))
-
 pub all_once : OfCells → (boxes : List (List Interval)) → AllPairs (λ one other. HaveCommonCell one other → ⊥) boxes → Distinct (flat_map cells_of boxes)
 all_once known [] apart = tt
 all_once known (box ∷ boxes) apart =
     distinct_joined (cells_of box) (flat_map cells_of boxes) (cells_once known box)
-    (all_once known boxes (pairs_after (λ one other. HaveCommonCell one other → ⊥) box boxes apart))
+    (all_once known boxes (pairs_rest (λ one other. HaveCommonCell one other → ⊥) box boxes apart))
     (λ p here later.
     let found = joined_member cells_of boxes p later in
-    pairs_with_first (λ one other. HaveCommonCell one other → ⊥) box boxes apart found.0 found.1 (p, is_in known box p here, is_in known found.0 p found.2))
+    pairs_with_first (λ one other. HaveCommonCell one other → ⊥) box boxes apart found.0 (contains_of boxes found.0 found.1) (p, is_in known box p here, is_in known found.0 p found.2))
 
 module _ (known : OfCells) (whole : List Interval) (boxes : List (List Interval)) (parts : IsPartition whole boxes) where
   pub parts_once : Distinct (flat_map cells_of boxes)

@@ -3,10 +3,9 @@ use Rattle.std.proofs.Common.{refl, sym, ◌∙◌, subst, inl, inr, ⊎_elim, g
 use Rattle.std.proofs.lemmas.List.{take_more, take_all}
 use Rattle.std.proofs.lemmas.List.Elements.{Contains-append_left, Contains-push, Contains-push_cases}
 use Rattle.std.specs.Prelude.{◌≡◌, ◌⊎◌, ◌↔◌, ℕ, ◌+◌, ◌<◌, ◌≤◌, ℤ, List, [], ◌∷◌, ◌++◌, length, Any, Contains}
+use Rattle.pooma_logic.proofs.Members.{any_of, member_cases, member_left, member_right, of_any}
 use Rattle.pooma_domain.specs.Cells.{Interval}
 use Rattle.pooma_domain.specs.declared.strides.Strided.{Strided}
-use Rattle.pooma_model.proofs.Lists.{member_cases, member_left, member_right}
-use Rattle.pooma_model.proofs.Partitioning.{any_of, of_any}
 use Rattle.pooma_part.specs.Crossing.{IsCrossing, IsInner}
 use Rattle.pooma_part.proofs.Changing.{crossing_once}
 

@@ -5,12 +5,11 @@ use Rattle.std.proofs.lemmas.Int.{ints, by_lt_z}
 use Rattle.std.proofs.lemmas.List.Elements.{All-contains, All-cons, All-nil}
 use Rattle.std.proofs.Math.IntN.{*ℤ_comm, *ℤ-negsuc}
 use Rattle.std.specs.Prelude.{◌≡◌, ◌⊎◌, ◌↔◌, ℕ, suc, ◌==◌, ℤ, pos, negsuc, neg_ℤ, ◌+ℤ◌, ◌-ℤ◌, ◌*ℤ◌, ◌≤ℤ◌, ◌<ℤ◌, Bool, true, false, not, List, [], ◌∷◌, All, Any}
+use Rattle.pooma_logic.proofs.Members.{Member, any_of, contains_of, of_any}
 use Rattle.pooma_domain.specs.declared.strides.Strided.{Strided}
 use Rattle.pooma_layout.specs.Axes.{part_of, IsAscending}
 use Rattle.pooma_layout.proofs.Cutting.{one_part_by_borders}
 use Rattle.pooma_model.specs.Parts.{changes_part}
-use Rattle.pooma_model.proofs.Lists.{Member, contains_of}
-use Rattle.pooma_model.proofs.Partitioning.{any_of, of_any}
 use Rattle.pooma_part.specs.Crossing.{number_on, LiesBetween, IsCrossing, part_at}
 use Rattle.pooma_part.proofs.Stepping.{product_next, products_up, products_down}
 

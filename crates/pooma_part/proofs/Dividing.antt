@@ -7,14 +7,13 @@ use Rattle.std.proofs.lemmas.List.Elements.{All-head, All-tail, All-cons, All-ni
 use Rattle.std.proofs.lemmas.Nat.{mul-le}
 use Rattle.std.proofs.lemmas.Option.{get_or_from_slice_get, slice_get_within}
 use Rattle.std.specs.Prelude.{◌≡◌, ℕ, zero, suc, ◌+◌, ◌-◌, ◌*◌, ◌<◌, ◌≤◌, ℤ, pos, ◌+ℤ◌, ◌-ℤ◌, ◌≤ℤ◌, Option, Some, None, List, [], ◌∷◌, ◌++◌, length, map, flat_map, slice_get, All, IsSomeAnd}
+use Rattle.pooma_logic.proofs.Members.{Member, joined_member, member_joined, stands_at}
 use Rattle.pooma_domain.specs.Cells.{Interval, interval, axis_length, cells_of, IsIn, IsAxis, IsBox, IsOrdered}
 use Rattle.pooma_domain.proofs.CellOrder.{length-cells_of}
 use Rattle.pooma_domain.proofs.Within.{box_within}
 use Rattle.pooma_layout.specs.Patches.{boxes_of}
 use Rattle.pooma_layout.proofs.Counting.{length_of_interval}
 use Rattle.pooma_layout.proofs.Cutting.{Cut, cut_from_borders, length-cut_at, begin_at, end_at, slice_get-cut_at, begin_after_first, end_at_border, end_at_last, interval_within}
-use Rattle.pooma_model.proofs.Lists.{Member, stands_at}
-use Rattle.pooma_model.proofs.Partitioning.{joined_member, member_joined}
 use Rattle.pooma_part.specs.CutLines.{CutLine, IsCutLine, AreCutLines, parts_in}
 
 -- ---- a line's parts by their number

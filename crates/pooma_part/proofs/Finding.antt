@@ -7,12 +7,11 @@ use Rattle.std.specs.List.Retain.{DiffersFromLast, IsFiltered}
 use Rattle.std.specs.List.Sorted.{IsPermutation, IsSorted}
 use Rattle.std.specs.Ordering.{int_cmp, int_eq}
 use Rattle.std.specs.Prelude.{◌≡◌, ◌⊎◌, ◌↔◌, ℕ, zero, suc, ◌+◌, ◌-◌, ◌<◌, ◌≤◌, ℤ, pos, ◌+ℤ◌, ◌-ℤ◌, ◌≤ℤ◌, true, Option, Some, None, List, [], ◌∷◌, length, slice_get, Any, Contains}
+use Rattle.pooma_logic.proofs.Members.{Member, any_of, of_any}
 use Rattle.pooma_domain.specs.Cells.{Interval, axis_length, counting}
 use Rattle.pooma_layout.specs.Axes.{IsAscending, AreBorders}
 use Rattle.pooma_layout.proofs.Counting.{length_of_interval}
 use Rattle.pooma_model.specs.Parts.{borders_on, changes_part, parts_along}
-use Rattle.pooma_model.proofs.Lists.{Member}
-use Rattle.pooma_model.proofs.Partitioning.{any_of, of_any}
 use Rattle.pooma_part.specs.Crossing.{ChangesAt, IsInner}
 use Rattle.pooma_part.specs.Cuts.{LaidView, parts_on}
 use Rattle.pooma_part.proofs.Adding.{any_next, any_whole}

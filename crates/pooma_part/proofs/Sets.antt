@@ -13,9 +13,9 @@ use Rattle.std.specs.List.Retain.{DiffersFromLast, IsFiltered}
 use Rattle.std.specs.List.Sorted.{IsPermutation, IsSorted, IsStrictlySortedBy}
 use Rattle.std.specs.Ordering.{eq_by_cmp, int_cmp, int_eq}
 use Rattle.std.specs.Prelude.{◌≡◌, ◌⊎◌, ◌↔◌, ℕ, zero, suc, ◌<◌, ℤ, pos, ◌+ℤ◌, ◌≤ℤ◌, ◌<ℤ◌, Bool, true, false, List, [], ◌∷◌, length, Contains}
+use Rattle.pooma_logic.proofs.Members.{Member, contains_of, member_of}
 use Rattle.pooma_domain.specs.Cells.{counting}
 use Rattle.pooma_layout.specs.Axes.{IsAscending}
-use Rattle.pooma_model.proofs.Lists.{Member, contains_of, member_of}
 
 -- each number is below all later ones
 abbrev pub Rising : List ℤ → Type 0

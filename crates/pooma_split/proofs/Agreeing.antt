@@ -2,6 +2,7 @@
 use Rattle.std.proofs.Common.{refl, ap, ◌∙◌, subst, inl, inr, ⊎_elim, cond, take}
 use Rattle.std.specs.List.{cons_option, position_or_len}
 use Rattle.std.specs.Prelude.{◌≡◌, ℕ, zero, suc, ◌+◌, ℤ, not, Ok, Err, is_err, List, [], ◌∷◌}
+use Rattle.pooma_logic.proofs.Members.{Member}
 use Rattle.pooma_view.specs.declared.slots.Slot.{Slot}
 use Rattle.pooma_view.specs.Slots.{cell_named}
 use Rattle.pooma_field.specs.Numbered.{Change}
@@ -9,7 +10,6 @@ use Rattle.pooma_expr.specs.Values.{Checked}
 use Rattle.pooma_model.specs.Assigning.{Fails, Given, Nothing, Number, change_of, given_by}
 use Rattle.pooma_model.specs.Partitions.{changes_at, numbers_at}
 use Rattle.pooma_model.specs.Reducing.{number_in}
-use Rattle.pooma_model.proofs.Lists.{Member}
 use Rattle.pooma_store.specs.Numbering.{EachCell}
 use Rattle.pooma_piece.specs.declared.outcome.Outcome.{Outcome}
 use Rattle.pooma_piece.specs.Effects.{before_fault, change_to, changes_over, fault_or, first_fault_or, number_of, numbers_over}

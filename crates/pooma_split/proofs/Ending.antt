@@ -2,6 +2,7 @@
 use Rattle.std.proofs.Common.{refl, sym, ap, ◌∙◌, subst, inl, inr, ⊎_elim, arith, cond, take}
 use Rattle.std.specs.List.{filter_map, position_or_len}
 use Rattle.std.specs.Prelude.{◌≡◌, ◌≢◌, ℕ, suc, ◌+◌, ℤ, not, Option, None, Some, Ok, Err, is_err, List, [], ◌∷◌, length, map, fold, slice_get, All}
+use Rattle.pooma_logic.proofs.Members.{Member, contains_of, of_any}
 use Rattle.pooma_domain.specs.Cells.{Interval, cells_of, IsIn}
 use Rattle.pooma_domain.proofs.Within.{length_of_cell}
 use Rattle.pooma_view.specs.Slots.{positions_of}
@@ -18,8 +19,6 @@ use Rattle.pooma_model.specs.Declarations.{Declared, value_in}
 use Rattle.pooma_model.specs.Fit.{IsAssignFit}
 use Rattle.pooma_model.specs.Partitions.{IsPartition, changed_in_turn, changes_at, fault_at}
 use Rattle.pooma_model.specs.Parts.{parts_of}
-use Rattle.pooma_model.proofs.Lists.{Member, contains_of}
-use Rattle.pooma_model.proofs.Partitioning.{of_any}
 use Rattle.pooma_store.specs.Standing.{IsFresh}
 use Rattle.pooma_piece.specs.declared.outcome.Outcome.{Outcome}
 use Rattle.pooma_piece.specs.declared.outcome.Outcome.TheVariants.{Done}

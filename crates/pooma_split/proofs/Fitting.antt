@@ -1,9 +1,10 @@
 -- Each piece fits the areas of its objects' patches.
-use Rattle.std.proofs.Common.{refl, sym, ap, ◌∙◌, subst, inl, inr, ⊎_elim, arith}
+use Rattle.std.proofs.Common.{refl, sym, ap, ◌∙◌, subst, arith}
 use Rattle.std.proofs.lemmas.List.Elements.{All-head}
 use Rattle.std.proofs.lemmas.Option.{get_or_from_slice_get, slice_get-get_or, slice_get-map, slice_get_within}
 use Rattle.std.specs.Option.{option_and_then, option_map}
 use Rattle.std.specs.Prelude.{◌≡◌, ℕ, zero, suc, ◌<◌, ℤ, IsSomeAnd, Option, Some, List, [], ◌∷◌, length, map, slice_get, All, Contains}
+use Rattle.pooma_logic.proofs.Members.{Member, contains_of, member_image, member_of}
 use Rattle.pooma_domain.specs.Cells.{Interval, IsBox, IsIn}
 use Rattle.pooma_view.specs.Slots.{cell_named, positions_of}
 use Rattle.pooma_view.specs.Views.{Viewed}
@@ -18,7 +19,6 @@ use Rattle.pooma_model.specs.Assigning.{whole_value}
 use Rattle.pooma_model.specs.Declarations.{Declared, layout_at}
 use Rattle.pooma_model.specs.Fit.{IsFit}
 use Rattle.pooma_model.specs.Parts.{parts_of}
-use Rattle.pooma_model.proofs.Lists.{Member, contains_of, member_of}
 use Rattle.pooma_store.specs.Numbering.{areas_of, object_count}
 use Rattle.pooma_store.specs.Stored.{AreArrays}
 use Rattle.pooma_store.proofs.ObjectNumbers.{area_at, length-areas}
@@ -108,14 +108,9 @@ pub record Suits (declared : Declared) (number : ℕ) (p : Pieced) : Type 0 wher
   pub known : All (λ r. r.object < object_count declared.layouts) (requests_of p)
   pub statement : p.statement ≡ number
 
-from_map : {A B : Type 0} (f : A → B) (xs : List A) (y : B) → Member (map f xs) y → (x : A) × Member xs x × (f x ≡ y)
-from_map f [] y m = absurd m
-from_map f (x ∷ xs) y m =
-    ⊎_elim (λ e. (x, inl refl, e)) (λ later. let found = from_map f xs y later in (found.0, inr found.1, found.2)) m
-
 all_suit : HasLaws → (declared : Declared) (number : ℕ) (t : Task) (code : Expr) (positions : List Interval) → IsBox positions → CanSplit declared t code positions → (p : Pieced) → Contains (pieces_with declared number t code positions) p → Suits declared number p
 all_suit laws declared number t code positions valid can p there =
-    let from = from_map (piece_of declared number t code) (parts_of declared (views_with t (views_of code)) positions) p (member_of (pieces_with declared number t code positions) p there) in
+    let from = member_image (piece_of declared number t code) (parts_of declared (views_with t (views_of code)) positions) p (member_of (pieces_with declared number t code positions) p there) in
     subst (Suits declared number) from.2
     (record {
       fitting = is_fitting laws declared number t code positions valid can from.0 from.1;

@@ -7,6 +7,7 @@ use Rattle.std.specs.List.{filter_map}
 use Rattle.std.specs.List.Sorted.{IsPermutation}
 use Rattle.std.specs.Int.{w64}
 use Rattle.std.specs.Prelude.{◌≡◌, ◌⊎◌, ℕ, FitsSigned, ◌<◌, ℤ, Bool, true, false, None, Some, List, [], ◌∷◌, ◌++◌, length, map, fold, slice_get, All, Contains}
+use Rattle.pooma_logic.proofs.Members.{Member, contains_of, member_of}
 use Rattle.pooma_domain.specs.Cells.{Interval, cells_of, IsIn}
 use Rattle.pooma_view.specs.Slots.{cell_named}
 use Rattle.pooma_view.specs.Views.{Viewed}
@@ -31,7 +32,6 @@ use Rattle.pooma_model.specs.Midway.{SeesMidway}
 use Rattle.pooma_model.specs.Partitions.{IsPartition, fault_at, numbers_at, numbers_in_turn}
 use Rattle.pooma_model.specs.Parts.{parts_of}
 use Rattle.pooma_model.specs.Reducing.{reduced}
-use Rattle.pooma_model.proofs.Lists.{Member, contains_of, member_of}
 use Rattle.pooma_store.specs.Numbering.{object_count}
 use Rattle.pooma_store.proofs.OwnerNumbers.{objects_counted}
 use Rattle.pooma_piece.specs.declared.outcome.Outcome.{Outcome}

@@ -2,6 +2,7 @@
 use Rattle.std.proofs.lemmas.List.Elements.{All-map, All-nil}
 use Rattle.std.specs.Prelude.{◌≡◌, ℕ, ℤ, true, List, All, slice_index_or}
 use Rattle.std.proofs.lemmas.List.Elements.{Contains-get_or}
+use Rattle.pooma_logic.proofs.Members.{member_of}
 use Rattle.pooma_domain.specs.Cells.{Interval}
 use Rattle.pooma_view.specs.Slots.{positions_of}
 use Rattle.pooma_view.specs.Views.{Viewed}
@@ -15,7 +16,6 @@ use Rattle.pooma_model.specs.Declarations.{Declared}
 use Rattle.pooma_model.specs.Fit.{IsFit}
 use Rattle.pooma_model.specs.Partitions.{IsPartition}
 use Rattle.pooma_model.specs.Parts.{parts_of}
-use Rattle.pooma_model.proofs.Lists.{member_of}
 use Rattle.pooma_piece.specs.declared.task.Task.TheVariants as task
 use Rattle.pooma_piece.specs.Words.{MakesWords}
 use Rattle.pooma_split.specs.Splits.{piece_of, pieces_of, views_with}

@@ -7,6 +7,7 @@ use Rattle.std.proofs.lemmas.Option.{slice_get-get_or, slice_get-map}
 use Rattle.std.specs.Option.{option_map}
 use Rattle.std.specs.List.{insert, list_any, prefix_len}
 use Rattle.std.specs.Prelude.{◌≡◌, ℕ, ◌==◌, nat_lt, ℤ, Bool, true, false, Some, List, [], ◌∷◌, fold, map, slice_get, take, drop, IsSomeAnd, All, Contains}
+use Rattle.pooma_logic.proofs.Members.{Member, any_of, contains_of, member_at, member_cases, member_left, member_map, member_right}
 use Rattle.pooma_domain.specs.Cells.{Interval, IsBox, IsIn}
 use Rattle.pooma_view.specs.Slots.{cell_named, positions_of}
 use Rattle.pooma_view.specs.Views.{Viewed}
@@ -23,8 +24,6 @@ use Rattle.pooma_model.specs.Assigning.{whole_value}
 use Rattle.pooma_model.specs.Declarations.{Declared, layout_at}
 use Rattle.pooma_model.specs.Fit.{IsFit}
 use Rattle.pooma_model.specs.Parts.{parts_of}
-use Rattle.pooma_model.proofs.Lists.{Member, contains_of, member_at, member_cases, member_left, member_right}
-use Rattle.pooma_model.proofs.Partitioning.{any_of}
 use Rattle.pooma_store.specs.Stored.{AreArrays}
 use Rattle.pooma_store.specs.Standing.{Allocates}
 use Rattle.pooma_store.proofs.OwnerNumbers.{some_from}
@@ -97,10 +96,6 @@ all_asked (o ∷ objects) requests object m =
     (λ later. all_asked objects (with_read requests o) object later) m
 
 -- ---- the piece of a part
-
-member_map : {A B : Type 0} (f : A → B) (xs : List A) (x : A) → Member xs x → Member (map f xs) (f x)
-member_map f [] x m = absurd m
-member_map f (y ∷ xs) x m = ⊎_elim (λ same. inl (ap f same)) (λ later. inr (member_map f xs x later)) m
 
 module _ (laws : HasLaws) (declared : Declared) (number : ℕ) (t : Task) (code : Expr) (positions : List Interval) (valid : IsBox positions) (can : CanSplit declared t code positions)
     (box : List Interval) (here : Member (parts_of declared (views_with t (views_of code)) positions) box) (p : List ℤ) (inside : IsIn box p) where

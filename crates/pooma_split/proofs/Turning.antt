@@ -5,6 +5,7 @@ use Rattle.std.proofs.lemmas.List.{append-nil, length-set}
 use Rattle.std.proofs.lemmas.Option.{get_or_from_slice_get, slice_get-get_or, slice_get_within}
 use Rattle.std.specs.Option.{option_and_then, option_map, option_map_or}
 use Rattle.std.specs.Prelude.{◌≡◌, ◌≢◌, ℕ, zero, suc, ◌+◌, ◌<◌, ℤ, Option, Some, None, IsSome, List, [], ◌∷◌, ◌++◌, length, map, fold, slice_get, All, Contains}
+use Rattle.pooma_logic.proofs.Members.{Member, contains_of, member_at, member_cases}
 use Rattle.pooma_domain.specs.Cells.{Interval, cells_of, IsIn}
 use Rattle.pooma_view.specs.Slots.{cell_named, positions_of}
 use Rattle.pooma_view.specs.Views.{Viewed}
@@ -25,7 +26,6 @@ use Rattle.pooma_model.specs.Fit.{IsAssignFit}
 use Rattle.pooma_model.specs.Midway.{IsMidway, SeesMidway}
 use Rattle.pooma_model.specs.Partitions.{IsOfOthers, IsPartition, changes_at}
 use Rattle.pooma_model.specs.Parts.{parts_of}
-use Rattle.pooma_model.proofs.Lists.{Member, contains_of, member_at, member_cases}
 use Rattle.pooma_store.specs.Numbering.{AreObjects, EachCell, HasPatch, changed_at, object_at, object_count}
 use Rattle.pooma_store.specs.Standing.{IsFresh, IsFreshFor, StandsFor}
 use Rattle.pooma_store.specs.Stored.{AreArrays}

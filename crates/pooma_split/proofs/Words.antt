@@ -3,6 +3,7 @@ use Rattle.std.proofs.Common.{refl, inl, inr}
 use Rattle.std.proofs.lemmas.List.Elements.{All-head, All-tail}
 use Rattle.std.specs.List.{cons_option}
 use Rattle.std.specs.Prelude.{ℤ, Ok, Err, List, [], ◌∷◌, All}
+use Rattle.pooma_logic.proofs.Members.{Member}
 use Rattle.pooma_domain.specs.Cells.{Interval, cells_of}
 use Rattle.pooma_expr.specs.Reductions.{AllFit}
 use Rattle.pooma_expr.specs.Values.{Checked}
@@ -10,7 +11,6 @@ use Rattle.pooma_expr.proofs.Joins.{AllFit-append}
 use Rattle.pooma_expr.proofs.Words.{AnswersWord}
 use Rattle.pooma_model.specs.Partitions.{numbers_at, numbers_in_turn}
 use Rattle.pooma_model.specs.Reducing.{number_in}
-use Rattle.pooma_model.proofs.Lists.{Member}
 
 -- the numbers at positions
 pub numbers_word : (values : List ℤ → Checked) (ps : List (List ℤ)) → ((p : List ℤ) → Member ps p → AnswersWord (values p)) → AllFit (numbers_at values ps)

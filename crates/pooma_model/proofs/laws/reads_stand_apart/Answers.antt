@@ -1,12 +1,12 @@
 use Rattle.std.proofs.Common.{refl}
+use Rattle.pooma_logic.proofs.Members.{member_at, of_any}
 use Rattle.pooma_domain.specs.Cells.{IsIn}
 use Rattle.pooma_view.specs.Slots.{positions_of}
 use Rattle.pooma_field.specs.Worlds.{number_of}
 use Rattle.pooma_model.specs.Declarations.{shape_at}
 use Rattle.pooma_model.proofs.Assigned.{OfWorlds, goes_on}
 use Rattle.pooma_model.proofs.Changing.{OfNumbers}
-use Rattle.pooma_model.proofs.Lists.{member_at}
-use Rattle.pooma_model.proofs.Partitioning.{of_any, others_apart, others_within}
+use Rattle.pooma_model.proofs.Partitioning.{others_apart, others_within}
 use Rattle.pooma_model.proofs.Reading.{OfLooking, own_number, unwritten, value_by_reads, value_midway}
 use Rattle.pooma_model.proofs.laws.reads_stand_apart.Goals as goal
 
