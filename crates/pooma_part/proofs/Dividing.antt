@@ -1,13 +1,13 @@
 -- The parts of a cut line, and the boxes of a part of each of several lines.
-use Rattle.std.proofs.Common.{refl, sym, ap, ◌∙◌, subst, inl, inr, ⊎_elim, arith, get_or, take, drop, append_assoc}
+use Rattle.std.proofs.Common.{sym, ap, ◌∙◌, subst, ⊎_elim, arith, get_or, take, drop, append_assoc}
 use Rattle.std.proofs.lemmas.Int.{ints}
 use Rattle.std.proofs.lemmas.List.{append-nil, get_or_default, map-append, take_all, take_more}
 use Rattle.std.proofs.lemmas.List.Concat.{flat_map-append}
 use Rattle.std.proofs.lemmas.List.Elements.{All-head, All-tail, All-cons, All-nil}
 use Rattle.std.proofs.lemmas.Nat.{mul-le}
 use Rattle.std.proofs.lemmas.Option.{get_or_from_slice_get, slice_get_within}
-use Rattle.std.specs.Prelude.{◌≡◌, ℕ, zero, suc, ◌+◌, ◌-◌, ◌*◌, ◌<◌, ◌≤◌, ℤ, pos, ◌+ℤ◌, ◌-ℤ◌, ◌≤ℤ◌, Option, Some, None, List, [], ◌∷◌, ◌++◌, length, map, flat_map, slice_get, All, IsSomeAnd}
-use Rattle.pooma_logic.proofs.Members.{Member, joined_member, member_joined, stands_at}
+use Rattle.std.specs.Prelude.{◌≡◌, ℕ, ◌+◌, ◌-◌, ◌*◌, ◌<◌, ◌≤◌, ℤ, pos, ◌+ℤ◌, ◌-ℤ◌, ◌≤ℤ◌, Option, Some, None, List, [], ◌∷◌, ◌++◌, length, map, flat_map, slice_get, All, IsSomeAnd}
+use Rattle.pooma_logic.proofs.Members.{Member, all_members, joined_member, member_image, member_joined, member_map, stands_at}
 use Rattle.pooma_domain.specs.Cells.{Interval, interval, axis_length, cells_of, IsIn, IsAxis, IsBox, IsOrdered}
 use Rattle.pooma_domain.proofs.CellOrder.{length-cells_of}
 use Rattle.pooma_domain.proofs.Within.{box_within}
@@ -106,23 +106,6 @@ few_choices line lines n m valid is few =
 
 -- ---- boxes of parts
 
-at_place : {A : Type 0} (xs : List A) (k : ℕ) (d : A) → k < length xs → Member xs (get_or xs k d)
-at_place [] k d h = absurd (omega arith)
-at_place (x ∷ xs) zero d h = inl refl
-at_place (x ∷ xs) (suc k) d h = inr (at_place xs k d (omega arith))
-
-pub all_members : {A : Type 0} (P : A → Type 0) (xs : List A) → ((x : A) → Member xs x → P x) → All P xs
-all_members P xs each k d h = each (get_or xs k d) (at_place xs k d h)
-
-from_map : {A B : Type 0} (f : A → B) (xs : List A) (y : B) → Member (map f xs) y → (x : A) × Member xs x × (f x ≡ y)
-from_map f [] y m = absurd m
-from_map f (x ∷ xs) y m =
-    ⊎_elim (λ e. (x, inl refl, e)) (λ later. let found = from_map f xs y later in (found.0, inr found.1, found.2)) m
-
-mapped : {A B : Type 0} (f : A → B) (xs : List A) (x : A) → Member xs x → Member (map f xs) (f x)
-mapped f [] x m = absurd m
-mapped f (y ∷ ys) x m = ⊎_elim (λ e. inl (ap f e)) (λ later. inr (mapped f ys x later)) m
-
 -- each part of the box has a place and lies on its line
 record LiesIn (lines : List CutLine) (box : List Interval) : Type 0 where
   ordered : All IsOrdered box
@@ -134,7 +117,7 @@ lies_in [] box valid m =
     ⊎_elim (λ e. subst (LiesIn []) e (record { ordered = All-nil IsOrdered; low = tt; high = tt })) (λ none. absurd none) m
 lies_in (line ∷ lines) box valid m =
     let found = joined_member (λ rest. map (λ part. part ∷ rest) (parts_in line)) (boxes_of (map parts_in lines)) box m in
-    let first = from_map (λ part. part ∷ found.0) (parts_in line) box found.2 in
+    let first = member_image (λ part. part ∷ found.0) (parts_in line) box found.2 in
     let at = stands_at (parts_in line) first.0 first.1 in
     let within = part_within line at.0 first.0 (All-head IsCutLine line lines valid) at.1 in
     let rest : LiesIn lines found.0 = lies_in lines found.0 (All-tail IsCutLine line lines valid) found.1 in
@@ -158,7 +141,7 @@ with_each_part line lines boxes valid is =
     (all_members (λ rest. All (λ part. IsBox (part ∷ rest)) (parts_in line)) (boxes_of (map parts_in lines))
     (λ rest m. all_members (λ part. IsBox (part ∷ rest)) (parts_in line)
     (λ part k. part_is_box (line ∷ lines) (part ∷ rest) valid
-    (member_joined (λ r. map (λ p. p ∷ r) (parts_in line)) (boxes_of (map parts_in lines)) rest (part ∷ rest) m (mapped (λ p. p ∷ rest) (parts_in line) part k)))))
+    (member_joined (λ r. map (λ p. p ∷ r) (parts_in line)) (boxes_of (map parts_in lines)) rest (part ∷ rest) m (member_map (λ p. p ∷ rest) (parts_in line) part k)))))
 
 -- ---- a list by its first element
 

@@ -3,7 +3,7 @@ use Rattle.std.proofs.Common.{refl, sym, ap, subst}
 use Rattle.std.proofs.lemmas.List.Elements.{All-cons, All-head, All-nil, All-tail}
 use Rattle.std.specs.List.{filter_map, list_any}
 use Rattle.std.specs.Prelude.{◌≡◌, ℕ, suc, ◌-◌, ℤ, pos, ◌+ℤ◌, List, [], ◌∷◌, map, slice_get, All}
-use Rattle.pooma_logic.proofs.Members.{Member, of_any}
+use Rattle.pooma_logic.proofs.Members.{Member, all_members, of_any}
 use Rattle.pooma_domain.specs.Cells.{Interval, axis_length, counting, IsAxis, IsBox, IsIn}
 use Rattle.pooma_view.specs.Views.{Viewed}
 use Rattle.pooma_layout.specs.Axes.{IsBorder}
@@ -12,7 +12,7 @@ use Rattle.pooma_model.specs.Declarations.{Declared, layout_at}
 use Rattle.pooma_model.specs.Partitions.{IsPartition}
 use Rattle.pooma_model.specs.Parts.{borders_on, changes_part, cut_axes, parts_along, parts_of}
 use Rattle.pooma_part.specs.CutLines.{CutLine, IsCutLine, parts_in}
-use Rattle.pooma_part.proofs.Dividing.{all_members, part_is_box}
+use Rattle.pooma_part.proofs.Dividing.{part_is_box}
 use Rattle.pooma_part.proofs.Finding.{inner_counted}
 use Rattle.pooma_part.proofs.Sets.{ascending_of, chosen_rise, kept_member}
 use Rattle.pooma_split.proofs.Piecing.{IsWithin}

@@ -6,13 +6,12 @@ use Rattle.std.proofs.lemmas.Int.{ints, by_lt_z}
 use Rattle.std.specs.List.{cons_option, filter_map}
 use Rattle.std.specs.Ordering.{int_eq}
 use Rattle.std.specs.Prelude.{◌≡◌, ◌⊎◌, ℕ, ◌==◌, nat_lt, ℤ, int_lt, ◌≤ℤ◌, ◌<ℤ◌, Bool, true, false, ◌&&◌, ◌||◌, Option, None, Some, IfSome, Ok, Err, List, [], ◌∷◌, length, map, fold, All}
-use Rattle.pooma_logic.proofs.Members.{Member, of_any}
+use Rattle.pooma_logic.proofs.Members.{Member, all_members, of_any}
 use Rattle.pooma_domain.specs.Cells.{Interval, IsBefore, cells_of}
 use Rattle.pooma_field.specs.Numbered.{is_same_cell}
 use Rattle.pooma_expr.specs.Values.{Checked}
 use Rattle.pooma_model.specs.Assigning.{Given, fault_of, found_or, given_by}
 use Rattle.pooma_model.specs.Partitions.{IsLeastFault, IsNotEarlier, fault_at}
-use Rattle.pooma_part.proofs.Dividing.{all_members}
 use Rattle.pooma_piece.specs.declared.outcome.Outcome.{Outcome}
 use Rattle.pooma_piece.specs.Effects.{fault_or, first_fault_or}
 use Rattle.pooma_piece.specs.Plans.{Faulted, fault_in, faults_of, is_before, is_earlier, or_earlier}
