@@ -1,14 +1,14 @@
 //! The laws of objects, for the proofs of the crates above. Each does nothing.
-ghost use Rattle.std.specs.Prelude.{◌≡◌, ◌≢◌, ℕ, ◌<◌, ℤ, pos, Some, List, [], ◌∷◌, ◌++◌, length, map, slice_get, slice_index_or, slice_set, All};
+ghost use Rattle.std.specs.Prelude.{◌≡◌, ◌≢◌, ℕ, ◌<◌, ℤ, pos, Some, List, [], ◌∷◌, ◌++◌, length, map, slice_get, slice_index_or, slice_set};
 ghost use Rattle.std.specs.Arc.{arc_value};
 ghost use Rattle.std.specs.declared.alloc.Global.{Global};
 ghost use Rattle.std.specs.declared.sync.Arc.{Arc};
 ghost use Rattle.pooma_domain.specs.Cells.{Interval, IsIn};
 ghost use Rattle.pooma_field.specs.Numbered.{Numbered, Change, with_changes, IsFull};
 ghost use Rattle.pooma_field.specs.Shapes.{Shaped};
-ghost use Rattle.pooma_field.specs.Worlds.{World, array_of, number_of, changed, opening_world, HasCell};
-ghost use Rattle.pooma_layout.specs.Axes.{CutAxis, IsCutAxis};
-ghost use Rattle.pooma_layout.specs.Patches.{allocated_boxes, owner_of, Owns, IsLayout};
+ghost use Rattle.pooma_field.specs.Worlds.{World, array_of, changed, opening_world, HasCell};
+ghost use Rattle.pooma_layout.specs.Axes.{CutAxis};
+ghost use Rattle.pooma_layout.specs.Patches.{allocated_boxes, Owns, IsLayout};
 ghost use Rattle.pooma_patch.specs.Patched.{Patched};
 ghost use Rattle.pooma_store.specs.Gathered.{HasLaws};
 ghost use Rattle.pooma_store.specs.Numbering.{layout_at, object_count, object_of, areas_of, object_at, changed_at, new_patches, new_objects, AreObjects, EachCell, HasPatch};
