@@ -4,10 +4,10 @@
 # beside loops by hand over the same checked arithmetic; and the pieces of a reduction of 4,096 parts, as they are made. The
 # least of seven turns each. A figure past its bar is bold. Then this fails, and where something else comes out.
 set -eu
-cd "$(dirname "$0")/../crates/pooma_iterate_bench"
+cd "$(dirname "$0")/../crates/pooma_bench"
 # `rt run` proves and builds the program where it has changed, and then runs it
-rt run >/dev/null
-report=$(out/pooma_iterate_bench 2>&1)
+rt run -- machine 1 >/dev/null
+report=$(for what in cells lending pieces splitting; do out/pooma_bench $what; done 2>&1)
 ../../bench/host.sh
 echo
 awk '

@@ -1,4 +1,3 @@
-pub mod Asked
 pub mod Objects
 pub mod Requests
 pub mod Releases

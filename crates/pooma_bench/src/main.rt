@@ -1,9 +1,14 @@
 //! The project's measurements. What was done goes to standard output, and how long its parts took to standard error.
 #![tactic(auto)]
 
+ghost use Rattle.std.specs.Prelude.{◌≤◌};
+
 use command::Command;
-use measure::measure;
+use pooma_iterate_bench::{report_cells, report_lending, report_pieces, report_splitting};
 use std::process::ExitCode;
+use std::sync::Wait;
+use std::thread::Threads;
+use std::time::Clock;
 use std::{env, io};
 use window::MOST_ENTRIES;
 
@@ -17,19 +22,36 @@ mod window;
 /// The words ask for no measurement.
 const USAGE: u8 = 2;
 
+// Every measurement, one after another, with a window of so many entries.
+fn report_all<R: Threads + Wait + Sync + Clock + AllocGlobal + Print + Eprint>(
+    rt: &R,
+    entries: u32,
+) -> io::Result<()>
+    requires { entries ≤ MOST_ENTRIES }
+{
+    measure::report(rt, entries)?;
+    eval::report(rt)?;
+    desk::report(rt)?;
+    report_cells(rt)?;
+    report_lending(rt)?;
+    report_pieces(rt)?;
+    report_splitting(rt)
+}
+
 fn main(rt: HostRuntime) -> io::Result<ExitCode> {
     let words: Vec<String> = env::args(&rt)?.skip(1).collect(rt.alloc())?;
     match Command::from_words(&words) {
-        Some(Command::Machine { entries }) => {
-            let (tally, times) = measure(&rt, entries)?;
-            println!(rt; "{tally}")?;
-            eprintln!(rt; "{times}")?;
-        }
+        Some(Command::Machine { entries }) => measure::report(&rt, entries)?,
         Some(Command::Eval) => eval::report(&rt)?,
         Some(Command::Desk) => desk::report(&rt)?,
+        Some(Command::Cells) => report_cells(&rt)?,
+        Some(Command::Lending) => report_lending(&rt)?,
+        Some(Command::Pieces) => report_pieces(&rt)?,
+        Some(Command::Splitting) => report_splitting(&rt)?,
+        Some(Command::All { entries }) => report_all(&rt, entries)?,
         None => {
             eprintln!(rt;
-                "usage: pooma_bench machine N, where N is a number from 1 to {MOST_ENTRIES}, pooma_bench eval, or pooma_bench desk"
+                "usage: pooma_bench machine N | eval | desk | cells | lending | pieces | splitting | all N, where N is a number from 1 to {MOST_ENTRIES}"
             )?;
             return Ok(ExitCode::from(USAGE));
         }

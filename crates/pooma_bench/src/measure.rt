@@ -94,3 +94,13 @@ pub fn measure<R: Clock + AllocGlobal>(rt: &R, entries: u32) -> io::Result<(Tall
     };
     Ok((tally, times))
 }
+
+/// Runs one window of so many entries, and writes what was done in it to standard output, and how long its parts took to standard
+/// error. The error is that of a write or of the clock, or want of memory.
+pub fn report<R: Clock + AllocGlobal + Print + Eprint>(rt: &R, entries: u32) -> io::Result<()>
+    requires { entries ≤ MOST_ENTRIES }
+{
+    let (tally, times) = measure(rt, entries)?;
+    println!(rt; "{tally}")?;
+    eprintln!(rt; "{times}")
+}

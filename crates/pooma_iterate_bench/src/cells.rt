@@ -218,8 +218,13 @@ fn sample_all<R: Clock>(
     Ok([write?, read?, read_through(rt, store, numbers)?])
 }
 
-/// Writes and reads the cells of a square, and writes what came of it and how long it took.
-pub(crate) fn report<R: Clock + AllocGlobal + Print + Eprint>(rt: &R) -> io::Result<()> {
+/// Writes and reads the cells of an array of 1024 x 1024 in 16 patches through its patches, reads them through its store, and does
+/// the same over a plain vector.
+///
+/// For each of the three it writes, in a line of standard output, how many cells they are, the sum of their numbers and whether the
+/// vector came to the same; and in a line of standard error how many picoseconds a cell each of the two took. The error is that of a
+/// write or of the clock, or want of memory.
+pub fn report_cells<R: Clock + AllocGlobal + Print + Eprint>(rt: &R) -> io::Result<()> {
     let alloc = rt.alloc();
     let Ok(program) = check(alloc, SCRIPT) else {
         return Err(failed());

@@ -65,8 +65,11 @@ fn timed<R: Clock>(rt: &R, store: &mut Store) -> io::Result<[Duration; 2]>
     Ok([lent.duration_since(begun), settled.duration_since(lent)])
 }
 
-/// Lends the objects of many arrays and takes them back, and writes how many there are and how long it took.
-pub(crate) fn report<R: Clock + AllocGlobal + Print + Eprint>(rt: &R) -> io::Result<()> {
+/// Lends the 65,536 objects of a store of 256 arrays, and takes them back.
+///
+/// It writes how many objects there are in a line of standard output, and in two lines of standard error how many microseconds the
+/// two took. The error is that of a write or of the clock, or want of memory.
+pub fn report_lending<R: Clock + AllocGlobal + Print + Eprint>(rt: &R) -> io::Result<()> {
     let mut store = rows(rt.alloc())?;
     let [mut lend, mut settle] = timed(rt, &mut store)?;
     'turns: for _ in 1..TURNS {

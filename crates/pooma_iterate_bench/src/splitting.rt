@@ -34,8 +34,11 @@ fn timed<R: Clock>(
     Ok((made.len(), done.duration_since(begun)))
 }
 
-/// Makes the pieces of a reduction, and writes how many there are and how long it took.
-pub(crate) fn report<R: Clock + AllocGlobal + Print + Eprint>(rt: &R) -> io::Result<()> {
+/// Makes the pieces of a reduction of 4,096 parts.
+///
+/// It writes how many pieces there are in a line of standard output, and in a line of standard error how many nanoseconds a piece
+/// their making took. The error is that of a write or of the clock, or want of memory.
+pub fn report_splitting<R: Clock + AllocGlobal + Print + Eprint>(rt: &R) -> io::Result<()> {
     let alloc = rt.alloc();
     let Ok(program) = check(alloc, SCRIPT) else {
         return Err(failed());
