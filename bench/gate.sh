@@ -4,8 +4,9 @@
 #
 # bench/gate.sh [--keep] [CRATE..]: these crates, or all where none is given; those below them are measured too.
 #
-# Each crate goes through `rt ci` alone, after the crates below it, and the time is read at the lines that it prints between
-# these parts. Those that do so at once share the processors, so that each has one at least, and one that is alone has all.
+# Each crate goes through `rt ci` alone, with no edits but its own, as soon as the crates below it are proved, and the time is
+# read at the lines that it prints between these parts. What most crates stand on comes first. Those that go at once share the
+# processors, so that each has one at least, and one that is alone has all.
 # JOBS says how many may do so, as in `JOBS=2 bench/gate.sh`; without it as many as there are processors. The fewer, the less
 # memory they want: 20 GB may not do for four of the largest. On more than one processor the proof of a crate and that of its
 # tests go on side by side, so that these two figures are right as a sum alone.
@@ -28,7 +29,7 @@ declare -A uses running=() held=()
 # Ends what still runs, and leaves nothing behind.
 end() {
     trap - EXIT
-    [ ${#running[@]} -eq 0 ] || { kill "${!running[@]}" && wait; } 2>/dev/null
+    [ ${#running[@]} -eq 0 ] || { kill "${running[@]}" && wait; } 2>/dev/null
     rm -rf "$work"
 }
 trap end EXIT
@@ -75,11 +76,24 @@ lines() {
     done | awk '/^#\[(cfg\(test\)|test)\]/ { skip = 1; next } skip { if (/^}/ || /;$/ && !/^ /) skip = 0; next } NF { n++ } END { print n + 0 }'
 }
 
+# The crates by the lines of the longest row of crates that stand on one another and on this one, most first.
+declare -A above=()
+for name in $(tac -s ' ' <<<"$crates"); do
+    chain=$((${above[$name]:-0} + $(lines "$name")))
+    for other in ${uses[$name]}; do
+        [ "${above[$other]:-0}" -ge $chain ] || above[$other]=$chain
+    done
+done
+by_weight=$(for name in $crates; do echo "${above[$name]:-0} $name"; done | sort -srn | cut -d' ' -f2)
+
 # measure CRATE PROCESSORS: writes its row to the state, or what rt said where it does not pass.
 measure() {
     local pid line at=0 before=0 proof=0 tests=0 whole=0 edits=0 count=0
+    # the other crates' edits are tried where these are measured
+    cp -al "$work/repo" "$work/of.$1" || return 1
+    find "$work/of.$1/crates" -name must-fail ! -path "*/$1/must-fail" -exec rm -r {} +
     mkfifo "$work/$1.lines"
-    (cd "$work/repo" && TMPDIR=$work/tmp exec taskset -c "$2" "$kit/bin/rt" ci "$1") >"$work/$1.lines" 2>&1 &
+    (cd "$work/of.$1" && TMPDIR=$work/tmp exec taskset -c "$2" "$kit/bin/rt" ci "$1") >"$work/$1.lines" 2>&1 &
     pid=$!
     trap 'kill "$pid"; exit 1' TERM
     # hundredths of a second of the run and of all that it waited for, since the last part ended
@@ -92,8 +106,8 @@ measure() {
     while IFS= read -r line; do
         echo "$line" >>"$work/$1.log"
         case $line in
-        "rt: $1 is kept: "*) part; proof=kept ;;
-        "rt: $1 proved") part; proof=$at ;;
+        "rt: $1 is kept: "*) part; proof=kept; touch "$work/state/$1.proved" ;;
+        "rt: $1 proved") part; proof=$at; touch "$work/state/$1.proved" ;;
         "rt: $1: its tests are proved") part; tests=$at ;;
         # of a crate below, which has a row of its own
         *' is kept: '* | 'rt: '*' proved') part ;;
@@ -110,13 +124,13 @@ measure() {
     fi
 }
 
-# The crates that are not begun, and wait for no other.
+# The crates that are not begun, and wait for no proof; first those on which most others stand.
 ready() {
     local name other
-    for name in $crates; do
+    for name in $by_weight; do
         [ ! -e "$work/state/$name.begun" ] || continue
         for other in ${uses[$name]}; do
-            [ -e "$work/state/$other.row" ] || continue 2
+            [ -e "$work/state/$other.proved" ] || continue 2
         done
         echo "$name"
     done
@@ -128,8 +142,8 @@ begin() {
     local share=("${free[@]:0:count > 0 ? count : 1}")
     free=("${free[@]:${#share[@]}}")
     touch "$work/state/$1.begun"
-    measure "$1" "$(IFS=, && echo "${share[*]}")" &
-    running[$!]=$1 held[$!]=${share[*]}
+    { measure "$1" "$(IFS=, && echo "${share[*]}")"; touch "$work/state/$1.ended"; } &
+    running[$1]=$! held[$1]=${share[*]}
 }
 
 mapfile -t free < <(taskset -cp $$ | sed 's/.*: //' | tr ',' '\n' | awk -F- '{ for (i = $1; i <= ($2 == "" ? $1 : $2); i++) print i }')
@@ -140,10 +154,15 @@ while :; do
     if [ ${#waiting[@]} -gt 0 ] && [ $room -gt 0 ] && [ ${#free[@]} -gt 0 ]; then
         begin "${waiting[0]}" $((${#waiting[@]} < room ? ${#waiting[@]} : room))
     elif [ ${#running[@]} -gt 0 ]; then
-        wait -n -p ended "${!running[@]}" && echo "gate: measured ${running[$ended]}" >&2
-        read -ra share <<<"${held[$ended]}"
-        free+=("${share[@]}")
-        unset "running[$ended]" "held[$ended]"
+        # until a crate is proved, or one ends
+        sleep 1
+        for name in "${!running[@]}"; do
+            [ -e "$work/state/$name.ended" ] || continue
+            [ ! -e "$work/state/$name.row" ] || echo "gate: measured $name" >&2
+            read -ra share <<<"${held[$name]}"
+            free+=("${share[@]}")
+            unset "running[$name]" "held[$name]"
+        done
     else
         break
     fi
