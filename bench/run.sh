@@ -151,6 +151,31 @@ print((a * b).sum())
 END
 }
 
+# The same, and each part also reads the only patch of a further array.
+reads() {
+    cat <<END
+layout Rows (0:249,0:239) blocks (250,1)
+layout Columns (0:249,0:239) blocks (1,240)
+layout One (0:249,0:239) blocks (1,1)
+array A on Rows
+array B on Columns
+array C on One
+A = index(0)
+B = index(1)
+C = 1
+scalar total = sum(A * B + C)
+print total
+END
+}
+
+numpy_reads() {
+    cat <<END
+a, b = np.indices((250, 240))
+c = np.ones((250, 240), np.int64)
+print((a * b + c).sum())
+END
+}
+
 # A window for each scalar, beside so many arrays of so many patches that no window asks for.
 scalars() {
     echo "layout Aside (0:255) blocks ($patches)"
@@ -217,6 +242,10 @@ bars_parts() {
     fi
 }
 
+bars_reads() {
+    [ "$workers" -ne 1 ] || bars="$(quotient "${seconds}e6" 60000) microseconds an iterate"
+}
+
 bars_scalars() {
     if [ "$workers" -eq 1 ] && [ $arrays -gt 1 ]; then
         within "$(quotient "$(awk -v a="$seconds" -v b="$few" 'BEGIN { print (a - b) * 1e9 }')" $((windows * 4095)))" 30 'nanoseconds an object'
@@ -241,6 +270,7 @@ for side in 64 16; do
     run square "$turns statements on $side x $side cells in 16 blocks"
 done
 run parts 'a reduction of 60,000 parts'
+run reads 'a reduction of 60,000 parts that all read one patch'
 patches=1 arrays=1
 run scalars "$windows scalars beside one array of one patch"
 few=$alone patches=256 arrays=16
