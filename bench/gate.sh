@@ -5,7 +5,7 @@
 # bench/gate.sh [--keep] [CRATE..]: these crates, or all where none is given; those below them are measured too.
 #
 # Each crate goes through `rt ci` alone, with no edits but its own, as soon as the crates below it are proved, and the time is
-# read at the lines that it prints between these parts. What most crates stand on comes first. Those that go at once share the
+# read at the lines that it prints between these parts. What has the most lines above it comes first. Those that go at once share the
 # processors, so that each has one at least, and one that is alone has all.
 # JOBS says how many may do so, as in `JOBS=2 bench/gate.sh`; without it as many as there are processors. The fewer, the less
 # memory they want: 20 GB may not do for four of the largest. On more than one processor the proof of a crate and that of its
@@ -36,6 +36,8 @@ trap end EXIT
 trap 'exit 130' INT
 trap 'exit 143' TERM HUP
 
+# rt runs programs and tests as nobody, below TMPDIR
+chmod 711 "$work"
 mkdir "$work/repo" "$work/state" "$work/tmp"
 if [ -z "$keep" ]; then
     mkdir "$work/kit"
@@ -124,7 +126,7 @@ measure() {
     fi
 }
 
-# The crates that are not begun, and wait for no proof; first those on which most others stand.
+# The crates that are not begun, and wait for no proof; first those with the most lines above them.
 ready() {
     local name other
     for name in $by_weight; do
