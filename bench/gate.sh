@@ -17,6 +17,9 @@
 # and programs. Where nothing was kept before, the figures are the same. What was kept before is not proved again; the table
 # then says so of a crate, and counts only those of its edits that were tried here.
 #
+# The check before a crate's first edit begins with what checks in other copies of the repository on this machine kept, with or
+# without --keep. So measure where no other copy was checked.
+#
 # What rt says of a crate that does not pass goes to standard error. Those that stand on it are left out, and the others go on.
 set -u
 cd "$(dirname "$0")/.." || exit 1
