@@ -2,8 +2,8 @@
 use Rattle.std.proofs.Common.{◌≡◌, ℕ, zero, suc, ◌≤◌, false, List, [], ◌∷◌, ◌++◌, Some, refl, sym, ap, ◌∙◌, subst, inl, inr, arith, codes, length, length-append, append_assoc, append-nil}
 use Rattle.pooma_text.specs.declared.span.Span.{Span}
 use Rattle.pooma_text.specs.declared.token.TokenKind.TheVariants.{Sign}
-use Rattle.pooma_parse.specs.Languages.{Language, followed, listed, nothing, parens}
-use Rattle.pooma_parse.specs.Reader.{Reader, begins_sign, read_entries, read_listed, read_parens}
+use Rattle.pooma_parse.specs.Languages.{Language, followed, listed, nothing, parens, sign, ◌⨾◌}
+use Rattle.pooma_parse.specs.Reader.{Reader, begins_sign, read_closed, read_entries, read_listed, read_parens}
 use Rattle.pooma_parse.specs.Tokens.{Lexeme, sign_token}
 use Rattle.pooma_parse.proofs.Atoms.{begins_is, begins_of, sign_exact, token_begins}
 use Rattle.pooma_parse.proofs.Exact.{Any, Begins, Exact, and_then_some, cut, done, if_cases, if_false, if_true, nothing_begins, nothing_ends, some_same, step, then_begins}
@@ -87,6 +87,20 @@ module _ {A : Type 0} {F : List Lexeme → Type 0} {L : A → Language} {p : Rea
         let further = entries_sound (length first.mid) (first.value ∷ []) first.mid rest v first.more in
         subst (λ l. Begins (listed L l) tokens rest) further.1 (then_begins first.spelled further.2);
     complete = λ tokens rest v b f. listed_complete comma tokens rest v b f;
+  }
+
+  pub closed_exact : (text : List ℕ) → Before text F → Exact Any (λ v. L v ⨾ sign text) (read_closed p text)
+  unfolding read_closed
+  closed_exact text close = record {
+    sound = λ tokens rest v e.
+        let inside = step exact e in
+        let closed = step (sign_exact text) inside.more in
+        done (λ v. L v ⨾ sign text) closed.more (then_begins inside.spelled closed.spelled);
+    complete = λ tokens rest v b any.
+        let inside = cut b in
+        let at = token_begins inside.other in
+        and_then_some _ (exact.complete _ _ v inside.one (subst F (sym at.1) (close at.0 rest)))
+        (and_then_some _ ((sign_exact text).complete _ _ tt inside.other tt) refl);
   }
 
   pub parens_exact : Before (codes ")") F → Exact Any (λ v. parens (L v)) (read_parens p)

@@ -16,7 +16,7 @@ use Rattle.pooma_parse.specs.Lists.{BRACKETS, SUB, VIEW}
 use Rattle.pooma_parse.specs.Reader.{Reader, begins, begins_name, begins_named, begins_number, begins_sign, begins_word, expect_sign, expect_word, expr_within, is_reserved, pure, read_both, read_choice, read_expr, read_int, read_listed, read_named, read_nested, read_own, read_parens, read_primary, read_small, read_unary, refuse, unary_within, ◌>>◌}
 use Rattle.pooma_parse.specs.Tokens.{Lexeme}
 use Rattle.pooma_parse.proofs.Atoms.{begins_is, begins_of, name_begins, name_exact, name_test, number_begins, number_exact, number_no_sign, sign_exact, token_begins, word_exact}
-use Rattle.pooma_parse.proofs.Commas.{Before, NoSign, parens_exact}
+use Rattle.pooma_parse.proofs.Commas.{Before, NoSign, closed_exact, parens_exact}
 use Rattle.pooma_parse.proofs.Exact.{Any, Begins, Exact, and_then_some, cut, done, first_of_two, if_cases, if_false, if_true, nothing_ends, step, then_begins}
 use Rattle.pooma_parse.proofs.Operators.{AfterUnary, Follows, before_comma, closes}
 use Rattle.pooma_parse.proofs.Parts.{brackets_exact, closes_list, ints_exact, other_sign, small_exact, view_exact}
@@ -243,17 +243,17 @@ module _ {place : Place} {n : ℕ} {inner : Reader RawExpr} (exact : Exact (Foll
   both_sound : (o : RawOp) → Contains of_two o → (tokens mid rest : List Lexeme) (v : RawExpr) → Begins (word (operator_text o)) tokens mid
       → read_both o inner mid ≡ Some (v, rest) → Begins (Nested v) tokens rest
   unfolding read_both
-  both_sound o two tokens mid rest v named e =
+  both_sound o c tokens mid rest v named e =
       let opened = step (sign_exact (codes "(")) e in
-      let left = step exact opened.more in
-      let comma = step (sign_exact (codes ",")) left.more in
-      let right = step exact comma.more in
-      let closed = step (sign_exact (codes ")")) right.more in
-      let inside = then_begins (as_just left.spelled) (then_begins comma.spelled (as_just right.spelled)) in
-      let whole = then_begins named (then_begins opened.spelled (then_begins inside closed.spelled)) in
-      done Nested closed.more (record {
+      let left = step (closed_exact exact (codes ",") before_comma) opened.more in
+      let right = step (closed_exact exact (codes ")") closes) left.more in
+      let one = cut left.spelled in
+      let two = cut right.spelled in
+      let inside = then_begins (as_just one.one) (then_begins one.other (as_just two.one)) in
+      let whole = then_begins named (then_begins opened.spelled (then_begins inside two.other)) in
+      done Nested right.more (record {
         front = whole.front;
-        spelled = (of_both o two left.spelled.spelled.0 right.spelled.spelled.0 whole.spelled, omega (arith, left.spelled.spelled.1, right.spelled.spelled.1));
+        spelled = (of_both o c one.one.spelled.0 two.one.spelled.0 whole.spelled, omega (arith, one.one.spelled.1, two.one.spelled.1));
         whole = whole.whole;
       })
 
@@ -265,32 +265,25 @@ module _ {place : Place} {n : ℕ} {inner : Reader RawExpr} (exact : Exact (Foll
       let inside = cut opened.other in
       let one = cut inside.one in
       let two = cut one.other in
-      let comma = token_begins two.one in
-      let close = token_begins inside.other in
       and_then_some _ ((sign_exact (codes "(")).complete _ _ tt opened.one tt)
-      (and_then_some _ (exact.complete _ _ x (from_just one.one (left, shallow_left)) (subst (Follows EXPR) (sym comma.1) (before_comma comma.0 two.mid)))
-      (and_then_some _ ((sign_exact (codes ",")).complete _ _ tt two.one tt)
-      (and_then_some _ (exact.complete _ _ y (from_just two.other (right, shallow_right)) (subst (Follows EXPR) (sym close.1) (closes close.0 _)))
-      (and_then_some _ ((sign_exact (codes ")")).complete _ _ tt inside.other tt) refl))))
+      (and_then_some _ ((closed_exact exact (codes ",") before_comma).complete _ _ x (then_begins (from_just one.one (left, shallow_left)) two.one) tt)
+      (and_then_some _ ((closed_exact exact (codes ")") closes).complete _ _ y (then_begins (from_just two.other (right, shallow_right)) inside.other) tt) refl))
 
   choice_sound : (tokens mid rest : List Lexeme) (v : RawExpr) → Begins (word (codes "where")) tokens mid → read_choice inner mid ≡ Some (v, rest) → Begins (Nested v) tokens rest
   unfolding read_choice
   choice_sound tokens mid rest v named e =
       let opened = step (sign_exact (codes "(")) e in
-      let test = step exact opened.more in
-      let comma = step (sign_exact (codes ",")) test.more in
-      let one = step exact comma.more in
-      let again = step (sign_exact (codes ",")) one.more in
-      let other = step exact again.more in
-      let closed = step (sign_exact (codes ")")) other.more in
-      let inside = then_begins (as_just test.spelled) (then_begins comma.spelled (then_begins (as_just one.spelled) (then_begins again.spelled (as_just other.spelled)))) in
-      let whole = then_begins named (then_begins opened.spelled (then_begins inside closed.spelled)) in
-      done Nested closed.more (record {
+      let test = step (closed_exact exact (codes ",") before_comma) opened.more in
+      let one = step (closed_exact exact (codes ",") before_comma) test.more in
+      let other = step (closed_exact exact (codes ")") closes) one.more in
+      let p = cut test.spelled in
+      let q = cut one.spelled in
+      let r = cut other.spelled in
+      let inside = then_begins (as_just p.one) (then_begins p.other (then_begins (as_just q.one) (then_begins q.other (as_just r.one)))) in
+      let whole = then_begins named (then_begins opened.spelled (then_begins inside r.other)) in
+      done Nested other.more (record {
         front = whole.front;
-        spelled = (
-          choice test.spelled.spelled.0 one.spelled.spelled.0 other.spelled.spelled.0 whole.spelled,
-          omega (arith, test.spelled.spelled.1, one.spelled.spelled.1, other.spelled.spelled.1),
-        );
+        spelled = (choice p.one.spelled.0 q.one.spelled.0 r.one.spelled.0 whole.spelled, omega (arith, p.one.spelled.1, q.one.spelled.1, r.one.spelled.1));
         whole = whole.whole;
       })
 
@@ -306,16 +299,10 @@ module _ {place : Place} {n : ℕ} {inner : Reader RawExpr} (exact : Exact (Foll
       let q = cut p.other in
       let r = cut q.other in
       let s = cut r.other in
-      let comma = token_begins q.one in
-      let again = token_begins s.one in
-      let close = token_begins inside.other in
       and_then_some _ ((sign_exact (codes "(")).complete _ _ tt opened.one tt)
-      (and_then_some _ (exact.complete _ _ x (from_just p.one (test, shallow_test)) (subst (Follows EXPR) (sym comma.1) (before_comma comma.0 q.mid)))
-      (and_then_some _ ((sign_exact (codes ",")).complete _ _ tt q.one tt)
-      (and_then_some _ (exact.complete _ _ y (from_just r.one (one, shallow_one)) (subst (Follows EXPR) (sym again.1) (before_comma again.0 s.mid)))
-      (and_then_some _ ((sign_exact (codes ",")).complete _ _ tt s.one tt)
-      (and_then_some _ (exact.complete _ _ z (from_just s.other (other, shallow_other)) (subst (Follows EXPR) (sym close.1) (closes close.0 _)))
-      (and_then_some _ ((sign_exact (codes ")")).complete _ _ tt inside.other tt) refl))))))
+      (and_then_some _ ((closed_exact exact (codes ",") before_comma).complete _ _ x (then_begins (from_just p.one (test, shallow_test)) q.one) tt)
+      (and_then_some _ ((closed_exact exact (codes ",") before_comma).complete _ _ y (then_begins (from_just r.one (one, shallow_one)) s.one) tt)
+      (and_then_some _ ((closed_exact exact (codes ")") closes).complete _ _ z (then_begins (from_just s.other (other, shallow_other)) inside.other) tt) refl)))
 
   nested_sound : (tokens rest : List Lexeme) (v : RawExpr) → read_nested place inner tokens ≡ Some (v, rest) → Begins (Nested v) tokens rest
   unfolding read_nested

@@ -16,6 +16,7 @@ use Rattle.pooma_parse.specs.Tokens.{Lexeme, sign_token, word_token}
 use Rattle.pooma_parse.proofs.Atoms.{and_parts, among_contains, begins_of, contains_among, same_kind_is, sign_exact, span_at, span_read, token_begins, token_of}
 use Rattle.pooma_parse.proofs.Exact.{Any, Begins, Exact, cut, if_cases, if_false, if_true, some_same, step}
 use Rattle.pooma_parse.proofs.Operands.{within_exact}
+use Rattle.pooma_parse.proofs.Commas.{closed_exact}
 use Rattle.pooma_parse.proofs.Operators.{Follows, before_comma, closes}
 use Rattle.pooma_parse.proofs.Trees.{Deep}
 
@@ -76,18 +77,18 @@ one_not_two : (n : ℕ) (o : RawOp) (x : RawExpr) (mid rest : List Lexeme) → B
 unfolding read_both
 one_not_two n o x mid rest b = is_none _ (λ v e.
     let opened = step (sign_exact (codes "(")) e in
-    let left = step (within_exact InLine n) opened.more in
-    let comma = step (sign_exact (codes ",")) left.more in
+    let left = step (closed_exact (within_exact InLine n) (codes ",") before_comma) opened.more in
+    let first = cut left.spelled in
     let inside = cut (cut b).other in
     let same_start : (cut b).mid ≡ opened.mid = sym (begins_of (cut b).one).1 ∙ (begins_of opened.spelled).1 in
-    let at_comma = token_begins comma.spelled in
+    let at_comma = token_begins first.other in
     let at_close = token_begins inside.other in
-    let one = (within_exact InLine (suc n)).complete opened.mid left.mid left.value (deeper left.spelled)
-    (subst (Follows EXPR) (sym at_comma.1) (before_comma at_comma.0 comma.mid)) in
+    let one = (within_exact InLine (suc n)).complete opened.mid first.mid left.value (deeper first.one)
+    (subst (Follows EXPR) (sym at_comma.1) (before_comma at_comma.0 left.mid)) in
     let two = (within_exact InLine (suc n)).complete (cut b).mid inside.mid x inside.one
     (subst (Follows EXPR) (sym at_close.1) (closes at_close.0 rest)) in
-    let ends : left.mid ≡ inside.mid = ap (λ p. p.1) (some_same (sym one ∙ sym (ap (expr_within InLine (suc n)) same_start) ∙ two)) in
-    comma_no_close at_comma.0 at_close.0 comma.mid rest (sym at_comma.1 ∙ ends ∙ at_close.1))
+    let ends : first.mid ≡ inside.mid = ap (λ p. p.1) (some_same (sym one ∙ sym (ap (expr_within InLine (suc n)) same_start) ∙ two)) in
+    comma_no_close at_comma.0 at_close.0 left.mid rest (sym at_comma.1 ∙ ends ∙ at_close.1))
 
 own_none : (tokens : List Lexeme) → begins_word (codes "index") tokens ≡ false → read_own InLine tokens ≡ None
 unfolding read_own expect

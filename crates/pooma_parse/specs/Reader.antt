@@ -155,6 +155,13 @@ read_parens p = do
   expect_sign (codes ")")
   pure v
 
+-- what is read so, with this sign behind it
+unfoldable pub read_closed : {A : Type 0} → Reader A → List ℕ → Reader A
+read_closed p text = do
+  v ← p
+  expect_sign text
+  pure v
+
 unfoldable pub read_range : Reader (ℤ × ℤ)
 read_range = do
   first ← read_int
@@ -275,21 +282,16 @@ read_level level unary = read_repeated (level_of level) (read_operand level unar
 unfoldable pub read_both : RawOp → Reader RawExpr → Reader RawExpr
 read_both op inner = do
   expect_sign (codes "(")
-  left ← inner
-  expect_sign (codes ",")
-  right ← inner
-  expect_sign (codes ")")
+  left ← read_closed inner (codes ",")
+  right ← read_closed inner (codes ")")
   pure (tree.Bin op left right)
 
 unfoldable pub read_choice : Reader RawExpr → Reader RawExpr
 read_choice inner = do
   expect_sign (codes "(")
-  condition ← inner
-  expect_sign (codes ",")
-  then_value ← inner
-  expect_sign (codes ",")
-  else_value ← inner
-  expect_sign (codes ")")
+  condition ← read_closed inner (codes ",")
+  then_value ← read_closed inner (codes ",")
+  else_value ← read_closed inner (codes ")")
   pure (tree.Where condition then_value else_value)
 
 -- what only a line has, or only a body, and stands in parentheses

@@ -123,21 +123,6 @@ fn absolute(alloc: Global, operand: RawExpr) -> Result<RawExpr, LineError>
     Ok(RawExpr::Abs(Boxed::new(alloc, operand)?))
 }
 
-/// The tree of a `where`.
-fn chosen(
-    alloc: Global,
-    condition: RawExpr,
-    then_value: RawExpr,
-    else_value: RawExpr,
-) -> Result<RawExpr, LineError>
-    ensures { Makes (tree.Where condition then_value else_value) result }
-{
-    let condition = Boxed::new(alloc, condition)?;
-    let then_value = Boxed::new(alloc, then_value)?;
-    let else_value = Boxed::new(alloc, else_value)?;
-    Ok(RawExpr::Where(condition, then_value, else_value))
-}
-
 /// `index(` SMALL `)` in a line, and `@(` INT { `,` INT } `)` in a body.
 #[tactic(auto, unfolding(crate::specs::Reader::read_own, crate::specs::Reader::read_parens))]
 fn own(alloc: Global, cursor: &mut Cursor<'_>, place: Place) -> Result<RawExpr, LineError>
@@ -347,6 +332,23 @@ pub fn group(
     Ok(only)
 }
 
+/// EXPR with this sign behind it, in a box.
+#[cycle(expression)]
+#[tactic(auto, unfolding(crate::specs::Reader::read_closed))]
+fn closed(
+    alloc: Global,
+    cursor: &mut Cursor<'_>,
+    sign: &[u8],
+    place: Place,
+    depth: u32,
+) -> Result<Boxed<RawExpr>, LineError>
+    ensures { Reads (reader.read_closed (reader.expr_within place depth) sign.now) cursor.old result cursor.new }
+{
+    let only = chain(alloc, cursor, Chained::Expr, place, depth)?;
+    cursor.expect_sign(sign)?;
+    Ok(Boxed::new(alloc, only)?)
+}
+
 /// `(` EXPR `,` EXPR `)`, joined by an operator.
 #[cycle(expression)]
 #[tactic(auto, unfolding(crate::specs::Reader::read_both))]
@@ -360,11 +362,9 @@ fn both(
     ensures { Reads (reader.read_both op (reader.expr_within place depth)) cursor.old result cursor.new }
 {
     cursor.expect_sign(b"(")?;
-    let left = chain(alloc, cursor, Chained::Expr, place, depth)?;
-    cursor.expect_sign(b",")?;
-    let right = chain(alloc, cursor, Chained::Expr, place, depth)?;
-    cursor.expect_sign(b")")?;
-    joined(alloc, op, left, right)
+    let left = closed(alloc, cursor, b",", place, depth)?;
+    let right = closed(alloc, cursor, b")", place, depth)?;
+    Ok(RawExpr::Bin(op, left, right))
 }
 
 /// `(` EXPR `,` EXPR `,` EXPR `)` behind a `where`.
@@ -379,13 +379,10 @@ fn choice(
     ensures { Reads (reader.read_choice (reader.expr_within place depth)) cursor.old result cursor.new }
 {
     cursor.expect_sign(b"(")?;
-    let condition = chain(alloc, cursor, Chained::Expr, place, depth)?;
-    cursor.expect_sign(b",")?;
-    let then_value = chain(alloc, cursor, Chained::Expr, place, depth)?;
-    cursor.expect_sign(b",")?;
-    let else_value = chain(alloc, cursor, Chained::Expr, place, depth)?;
-    cursor.expect_sign(b")")?;
-    chosen(alloc, condition, then_value, else_value)
+    let condition = closed(alloc, cursor, b",", place, depth)?;
+    let then_value = closed(alloc, cursor, b",", place, depth)?;
+    let else_value = closed(alloc, cursor, b")", place, depth)?;
+    Ok(RawExpr::Where(condition, then_value, else_value))
 }
 
 /// EXPR, or BODY: an expression in which so many parentheses and minuses may stand one in another.

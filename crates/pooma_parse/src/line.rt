@@ -22,11 +22,10 @@ const MOST_NESTING: u32 = 64;
 pub fn form(alloc: Global, line: &Cursor<'_>) -> Result<RawLine, LineError>
     ensures { Reads reader.read_line line.now result [] }
 {
-    let answer = declaration(alloc, line);
-    if is_other_form(&answer) {
-        return statement(alloc, line);
+    match declaration(alloc, line) {
+        Err(LineError::Syntax) => statement(alloc, line),
+        answer => answer,
     }
-    answer
 }
 
 /// Whether a line may still be of another form.

@@ -27,16 +27,19 @@ abbrev pub decreases-primary : goal.decreases-primary
 decreases-primary l = 16 * l.depth
 
 abbrev pub decreases-nested : goal.decreases-nested
-decreases-nested l = 16 * l.depth + 12
+decreases-nested l = 16 * l.depth + 13
 
 abbrev pub decreases-group : goal.decreases-group
 decreases-group l = 16 * l.depth + 11
 
+abbrev pub decreases-closed : goal.decreases-closed
+decreases-closed l = 16 * l.depth + 11
+
 abbrev pub decreases-both : goal.decreases-both
-decreases-both l = 16 * l.depth + 11
+decreases-both l = 16 * l.depth + 12
 
 abbrev pub decreases-choice : goal.decreases-choice
-decreases-choice l = 16 * l.depth + 11
+decreases-choice l = 16 * l.depth + 12
 
 abbrev pub invariant-chain-loop-turn : goal.invariant-chain-loop-turn
 invariant-chain-loop-turn l = read_level l.level (unary_within l.place l.depth) l.fn.cursor
