@@ -8,7 +8,7 @@ ghost use Rattle.pooma_parse.specs.declared.form.RawExpr.TheVariants as tree;
 use crate::cursor::{Cursor, MOST_NUM};
 use crate::error::LineError;
 use crate::form::{RawExpr, RawOp, RawView};
-use crate::lists::int_list;
+use crate::lists::{Int, in_parens};
 use crate::view::{brackets, view};
 use sqlite_items::Boxed;
 use std::alloc::Global;
@@ -138,9 +138,7 @@ fn own(alloc: Global, cursor: &mut Cursor<'_>, place: Place) -> Result<RawExpr, 
         }
         Place::InBody => {
             cursor.expect_sign(b"@")?;
-            cursor.expect_sign(b"(")?;
-            let offset = int_list(alloc, cursor)?;
-            cursor.expect_sign(b")")?;
+            let offset = in_parens::<Int>(alloc, cursor)?;
             Ok(RawExpr::At(offset))
         }
     }

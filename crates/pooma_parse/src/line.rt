@@ -7,7 +7,7 @@ use crate::cursor::Cursor;
 use crate::error::LineError;
 use crate::expression::{Place, expression, group};
 use crate::form::{RawAssign, RawLine, RawView};
-use crate::lists::{cutting, domain, layers, smalls, updater_list};
+use crate::lists::{Range, Small, Updater, cutting, in_parens, layers, listed};
 use crate::view::view;
 use pooma_text::Span;
 use std::alloc::Global;
@@ -99,7 +99,7 @@ fn layout(alloc: Global, line: &Cursor<'_>) -> Result<RawLine, LineError>
     let mut cursor = line.fork();
     cursor.expect_word(b"layout")?;
     let name = cursor.name()?;
-    let domain = domain(alloc, &mut cursor)?;
+    let domain = in_parens::<Range>(alloc, &mut cursor)?;
     let cutting = cutting(alloc, &mut cursor)?;
     let internal = layers(alloc, &mut cursor, b"internal")?;
     let external = layers(alloc, &mut cursor, b"external")?;
@@ -121,7 +121,7 @@ fn brick(alloc: Global, line: &Cursor<'_>) -> Result<RawLine, LineError>
     let mut cursor = line.fork();
     cursor.expect_word(b"brick")?;
     let name = cursor.name()?;
-    let domain = domain(alloc, &mut cursor)?;
+    let domain = in_parens::<Range>(alloc, &mut cursor)?;
     cursor.end()?;
     Ok(RawLine::Brick { name, domain })
 }
@@ -151,7 +151,7 @@ fn field(alloc: Global, line: &Cursor<'_>) -> Result<RawLine, LineError>
     cursor.expect_word(b"on")?;
     let layout = cursor.name()?;
     cursor.expect_word(b"faces")?;
-    let faces = updater_list(alloc, &mut cursor)?;
+    let faces = listed::<Updater>(alloc, &mut cursor)?;
     cursor.end()?;
     Ok(RawLine::Field {
         name,
@@ -169,9 +169,9 @@ fn stencil(alloc: Global, line: &Cursor<'_>) -> Result<RawLine, LineError>
     cursor.expect_word(b"stencil")?;
     let name = cursor.name()?;
     cursor.expect_word(b"lower")?;
-    let lower = smalls(alloc, &mut cursor)?;
+    let lower = in_parens::<Small>(alloc, &mut cursor)?;
     cursor.expect_word(b"upper")?;
-    let upper = smalls(alloc, &mut cursor)?;
+    let upper = in_parens::<Small>(alloc, &mut cursor)?;
     cursor.expect_sign(b"=")?;
     let body = expression(alloc, &mut cursor, Place::InBody, MOST_NESTING)?;
     cursor.end()?;

@@ -6,6 +6,7 @@ ghost use Rattle.pooma_parse.specs.Reader.{Reads};
 use crate::cursor::Cursor;
 use crate::error::LineError;
 use crate::form::{RawList, RawSub, RawView};
+use crate::lists::{Entry, listed};
 use std::alloc::Global;
 
 /// `:` INT, or 1 where no colon comes next.
@@ -20,33 +21,25 @@ fn stride(cursor: &mut Cursor<'_>) -> Result<i32, LineError>
 }
 
 /// INT, or INT `:` INT, or INT `:` INT `:` INT
-#[tactic(auto, unfolding(crate::specs::Reader::read_sub))]
-fn sub(cursor: &mut Cursor<'_>) -> Result<RawSub, LineError>
-    ensures { Reads reader.read_sub cursor.old result cursor.new }
-{
-    let first = cursor.int()?;
-    if !cursor.eat_sign(b":") {
-        return Ok(RawSub::At(first));
-    }
-    let last = cursor.int()?;
-    let stride = stride(cursor)?;
-    Ok(RawSub::Range(first, last, stride))
-}
+struct Sub;
 
-/// SUB { `,` SUB }
-#[tactic(auto, using(crate::proofs::Turns::entry_read), unfolding(crate::specs::Reader::read_listed, crate::specs::Reader::read_entries))]
-fn sub_list(alloc: Global, cursor: &mut Cursor<'_>) -> Result<RawList<RawSub>, LineError>
-    ensures { Reads (reader.read_listed reader.read_sub) cursor.old result cursor.new }
-{
-    let mut found = RawList::new(alloc);
-    found.push(sub(cursor)?)?;
-    for _turn in 0..cursor.len() {
-        if !cursor.eat_sign(b",") {
-            return Ok(found);
+impl Entry for Sub {
+    ghost use Rattle.pooma_parse.specs.Reader.{read_sub};
+
+    type Value = RawSub;
+
+    ghost reader = { read_sub };
+
+    #[tactic(auto, unfolding(crate::specs::Reader::read_sub))]
+    fn read(_alloc: Global, cursor: &mut Cursor<'_>) -> Result<RawSub, LineError> {
+        let first = cursor.int()?;
+        if !cursor.eat_sign(b":") {
+            return Ok(RawSub::At(first));
         }
-        found.push(sub(cursor)?)?;
+        let last = cursor.int()?;
+        let stride = stride(cursor)?;
+        Ok(RawSub::Range(first, last, stride))
     }
-    Ok(found)
 }
 
 /// `[` SUB { `,` SUB } `]`, or nothing where no bracket comes next.
@@ -60,7 +53,7 @@ pub fn brackets(
     if !cursor.eat_sign(b"[") {
         return Ok(None);
     }
-    let subs = sub_list(alloc, cursor)?;
+    let subs = listed::<Sub>(alloc, cursor)?;
     cursor.expect_sign(b"]")?;
     Ok(Some(subs))
 }
