@@ -146,8 +146,15 @@ pub fn within_limits(
         return Ok(Verdict::Stops(limit));
     }
     let does = action(alloc, known, text, form, positions)?;
-    match first_passed_by_action(alloc, known, &does)? {
-        Some(limit) => Ok(Verdict::Stops(limit)),
-        None => Ok(Verdict::Goes(does)),
+    match first_passed_by_action(alloc, known, &does) {
+        Ok(None) => Ok(Verdict::Goes(does)),
+        Ok(Some(limit)) => {
+            drop(does);
+            Ok(Verdict::Stops(limit))
+        }
+        Err(error) => {
+            drop(does);
+            Err(error)
+        }
     }
 }

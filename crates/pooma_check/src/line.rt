@@ -35,7 +35,11 @@ pub fn read_line<'a>(
 {
     match parse_line(alloc, text) {
         Ok(None) => read_blank(number),
-        Ok(Some(form)) => read_form(alloc, known, number, text, &form),
+        Ok(Some(form)) => {
+            let answer = read_form(alloc, known, number, text, &form);
+            drop(form);
+            answer
+        }
         Err(LineError::Syntax) => Err(refuse(number, Cause::Syntax)),
         Err(LineError::OutOfMemory) => Err(CheckError::OutOfMemory),
     }

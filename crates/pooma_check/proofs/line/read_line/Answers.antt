@@ -11,14 +11,14 @@ use Rattle.pooma_check.proofs.line.read_line.Goals as goal
 pub returns-in-Ok-Some-clause-goes : goal.returns-in-Ok-Some-clause-goes
 returns-in-Ok-Some-clause-goes c =
     let spells : Spells c.args.text.now c.in-Ok-Some.form = rw c.in-Ok-Some.field-0-is at c.in-Ok-Some.ensures.form in
-    IfOk-weaker c.read_form.result _ _ (λ _ h. spelt c.in-Ok-Some.form spells h) c.read_form.ensures.goes
+    IfOk-weaker c.read_form-answer.result _ _ (λ _ h. spelt c.in-Ok-Some.form spells h) c.read_form-answer.ensures.goes
 
 pub returns-in-Ok-Some-clause-refused : goal.returns-in-Ok-Some-clause-refused
 returns-in-Ok-Some-clause-refused c =
     let spells : Spells c.args.text.now c.in-Ok-Some.form = rw c.in-Ok-Some.field-0-is at c.in-Ok-Some.ensures.form in
     answered_too (λ (line : ℕ) (why : Cause). (line ≡ c.args.number) × form_outcome c.args.number (known_of c.args.known.now) c.args.text.now c.in-Ok-Some.form (Stops why))
     (λ (line : ℕ) (why : Cause). (line ≡ c.args.number) × Becomes c.args.number (known_of c.args.known.now) c.args.text.now (Stops why))
-    (λ line why h. (h.0, spelt c.in-Ok-Some.form spells h.1)) c.read_form.result c.read_form.ensures.refused
+    (λ line why h. (h.0, spelt c.in-Ok-Some.form spells h.1)) c.read_form-answer.result c.read_form-answer.ensures.refused
 
 pub returns-in-Err-Syntax-clause-refused : goal.returns-in-Err-Syntax-clause-refused
 returns-in-Err-Syntax-clause-refused c =
