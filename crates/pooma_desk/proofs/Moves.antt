@@ -13,7 +13,7 @@ use Rattle.pooma_desk.specs.Sight.{Began}
 use Rattle.pooma_desk.specs.Sight.{Sight}
 use Rattle.pooma_desk.specs.Seen.{longer, HasSeen}
 use Rattle.pooma_desk.specs.Rule.{IsLive, Fits, AreApart, IsAfter, IsFree, IsTaken, IsWhole, IsKept, MayNote, first_of}
-use Rattle.pooma_desk.specs.Steps.{first_sight, given_away, newcomer, joining, joined, spent, taking, noting, leaving, Takes, Notes, Leaves}
+use Rattle.pooma_desk.specs.Steps.{first_sight, given_away, newcomer, joining, joined, spent, taking, noting, leaving, Takes, Notes, Leaves, Peeks}
 use Rattle.pooma_desk.specs.Steps.{Joins as JoinTells}
 use Rattle.pooma_desk.specs.Turns.{IsResting}
 use Rattle.pooma_desk.proofs.Fronts.{merged, longer_alone}
@@ -201,6 +201,10 @@ module _ {W V : Type 0} (start : Began W V) where
 
   pub takes_turn : (slots id seat : ℕ) (me : Mine) → IsResting me.0 → first_of me.0.seats ≡ seat → Allows (IsKept start) slots id me 0 (λ n. either (n == 0) (seat + 1) n) (Takes (step slots 0 0 (seat + 1) none) me)
   takes_turn slots id seat me rests own s kept long at small = takes_here slots id seat me.0 me.1 rests own s kept at
+
+  -- A look at the turn, which changes nothing
+  pub peeks_turn : (slots id : ℕ) (me : Mine) → Allows (IsKept start) slots id me 0 (λ n. n) (Peeks (step slots 0 0 0 none) me)
+  peeks_turn slots id me s kept long at small = (me.0, keeps, tt, same_again s 0 id me.0 kept at, refl)
 
   -- Step 5, which counts an event and notes it
   pub notes_event : (slots id : ℕ) (v : Sight W V) (out : List (ℕ × Slot)) (n : Noted W) (count : ℕ) → IsLive v → v.holds ≡ true → v.others ≡ [] → v.told ≡ [] → MayNote v n → count ≡ length v.seen + 1

@@ -68,6 +68,10 @@ module _ {W V : Type 0} where
       (found ≡ 0 → (machine : Account W V) × HasTaken before.0 after.0 machine × (after.1 ≡ (0, Some machine) ∷ before.1))
       × (found ≢ 0 → after ≡ before)
 
+  -- a look at the turn changes nothing
+  abbrev pub Peeks : Step (Option (Account W V)) → Me (Option (Account W V)) (Sight W V) → ℕ → Me (Option (Account W V)) (Sight W V) → Type 0
+  Peeks step before found after = after ≡ before
+
   abbrev pub Notes : Noted W → Step (Option (Account W V)) → Me (Option (Account W V)) (Sight W V) → ℕ → Me (Option (Account W V)) (Sight W V) → Type 0
   Notes n step before found after = after ≡ (noting before.0 n, before.1)
 

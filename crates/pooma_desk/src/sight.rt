@@ -66,6 +66,15 @@ impl<W: Work> Play<Option<Machine<W>>, Sight<W>> for Take {
     ghost then = { Takes };
 }
 
+/// A look before step 3.
+pub struct Peek;
+
+impl<W: Work> Play<Option<Machine<W>>, Sight<W>> for Peek {
+    ghost use Rattle.pooma_desk.specs.Steps.{Peeks};
+
+    ghost then = { Peeks };
+}
+
 /// Which event a step notes: its caller picks it, since the step itself carries numbers alone.
 pub trait Picked<W> {
     ghost use Rattle.pooma_desk.specs.declared.sight.Noted.{Noted};

@@ -7,7 +7,7 @@ ghost use Rattle.pooma_desk.specs.Turns.{IsResting, IsInTurn, IsSeenLegal};
 
 use crate::desk::Desk;
 use crate::pass::{Pass, Place};
-use crate::sight::{Leave, Note, Picked, Take};
+use crate::sight::{Leave, Note, Peek, Picked, Take};
 use pooma_machine::{Event, Machine, Work};
 use std::marker::Brand;
 use std::sync::Wait;
@@ -28,6 +28,15 @@ pub(crate) struct Turn<W: Work> {
 }
 
 impl<W: Work> Desk<W> {
+    // Whether the turn is held. Those that wait may look at the same time, where each try wants the word for itself alone.
+    fn is_held(&self, place: &mut Place<W>) -> bool
+        requires desk { place.old.table_id ≡ self.now.desk }
+        ensures desk { place.new.table_id ≡ place.old.table_id }
+        ensures known { place.new.me ≡ place.old.me }
+    {
+        self.table.shared.load::<Peek>(place, 0) != 0
+    }
+
     // Step 3, once. Where the turn is held, nothing changes.
     fn try_take(&self, place: &mut Place<W>, seat: u32) -> bool
         requires desk { place.old.table_id ≡ self.now.desk }
@@ -38,6 +47,9 @@ impl<W: Work> Desk<W> {
         ensures taken { IsTrue result → (machine : Account W W.Content) × HasTaken place.old.me.0 place.new.me.0 machine × (place.new.me.1 ≡ (0, Some machine) ∷ []) }
         ensures missed { result ≡ false → place.new.me ≡ place.old.me }
     {
+        if self.is_held(place) {
+            return false;
+        }
         let found = self
             .table
             .shared
