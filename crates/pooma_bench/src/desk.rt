@@ -283,26 +283,26 @@ fn sample_all<R: Threads + Wait + Sync + Clock>(rt: &R, alloc: Global) -> io::Re
     ])
 }
 
+// Writes whether all works were done, and how many a second.
+fn write_sample<R: Print + Eprint>(rt: &R, name: &str, sample: Sample) -> io::Result<()> {
+    let done = if sample.is_whole { "all" } else { "not all" };
+    println!(rt; "{name}: {WORKS} works over {OBJECTS} objects, {done} done")?;
+    eprintln!(rt; "{name}: {sample}")
+}
+
 /// Does small works on a machine alone and behind a desk, and writes whether all were done and how many a second.
 pub fn report<R: Threads + Wait + Sync + Clock + AllocGlobal + Print + Eprint>(
     rt: &R,
 ) -> io::Result<()> {
-    let names = [
-        "machine alone",
-        "desk, 1 thread",
-        "desk, 2 threads",
-        "desk, 4 threads",
-    ];
     let mut samples = sample_all(rt, rt.alloc())?;
     for _ in 1..TURNS {
         let [a, b, c, d] = sample_all(rt, rt.alloc())?;
         let [w, x, y, z] = samples;
         samples = [w.or_less(a), x.or_less(b), y.or_less(c), z.or_less(d)];
     }
-    for (name, sample) in names.iter().zip(&samples) {
-        let done = if sample.is_whole { "all" } else { "not all" };
-        println!(rt; "{name}: {WORKS} works over {OBJECTS} objects, {done} done")?;
-        eprintln!(rt; "{name}: {sample}")?;
-    }
-    Ok(())
+    let [alone, one, two, four] = samples;
+    write_sample(rt, "machine alone", alone)?;
+    write_sample(rt, "desk, 1 thread", one)?;
+    write_sample(rt, "desk, 2 threads", two)?;
+    write_sample(rt, "desk, 4 threads", four)
 }

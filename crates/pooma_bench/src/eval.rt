@@ -174,7 +174,7 @@ fn choice(alloc: Global) -> Result<Expr, AllocError> {
 }
 
 // The code of an expression that asks for no more than a measurement has.
-fn code_of(alloc: Global, expr: &Expr) -> io::Result<Code>
+fn compiled(alloc: Global, expr: &Expr) -> io::Result<Code>
     ensures axes { IfOk result (λ code. axes_needed code ≤ 1) }
     ensures reads { IfOk result (λ code. length (views_of code) ≤ MOST_READS) }
 {
@@ -186,6 +186,16 @@ fn code_of(alloc: Global, expr: &Expr) -> io::Result<Code>
         return Err(io::Error::from(io::ErrorKind::InvalidInput));
     }
     Ok(Code::of(alloc, expr, &[])?)
+}
+
+// The same of an expression that is done with then.
+fn code_of(alloc: Global, expr: Expr) -> io::Result<Code>
+    ensures axes { IfOk result (λ code. axes_needed code ≤ 1) }
+    ensures reads { IfOk result (λ code. length (views_of code) ≤ MOST_READS) }
+{
+    let code = compiled(alloc, &expr);
+    drop(expr);
+    code
 }
 
 // Two planes of small numbers.
@@ -248,45 +258,50 @@ impl Evaluation {
     }
 }
 
+// How long an expression took at all positions, by its code and by hand.
+fn timed<R: Clock, F: Fn() -> Tally>(
+    rt: &R,
+    code: &Code,
+    planes: &Planes,
+    by_hand: F,
+) -> io::Result<Evaluation>
+    requires axes { axes_needed code.now ≤ 1 }
+    requires reads { length (views_of code.now) ≤ MOST_READS }
+    requires within { (read : ℕ) → read < MOST_READS → slice_index planes.now.starts read + POSITIONS ≤ length planes.now.numbers.now }
+    requires callable { F.IsAlwaysCallable by_hand }
+{
+    let begun = Instant::now(rt)?;
+    let tally = by_code(code, planes);
+    let evaluated = Instant::now(rt)?;
+    let other = by_hand();
+    let done = Instant::now(rt)?;
+    Ok(Evaluation::new([begun, evaluated, done], [tally, other]))
+}
+
 // The expression `A + B * 3` of two rows.
 fn sums<R: Clock + AllocGlobal>(rt: &R, planes: &Planes) -> io::Result<Evaluation>
     requires within { (read : ℕ) → read < MOST_READS → slice_index planes.now.starts read + POSITIONS ≤ length planes.now.numbers.now }
 {
-    let code = code_of(rt.alloc(), &sum(rt.alloc())?)?;
+    let code = code_of(rt.alloc(), sum(rt.alloc())?)?;
     let (a, b) = (row(planes, 0), row(planes, 1));
-    let begun = Instant::now(rt)?;
-    let tally = by_code(&code, planes);
-    let evaluated = Instant::now(rt)?;
-    let other = sum_by_hand(a, b);
-    let done = Instant::now(rt)?;
-    Ok(Evaluation::new([begun, evaluated, done], [tally, other]))
+    timed(rt, &code, planes, || sum_by_hand(a, b))
 }
 
 // The five-point mean.
 fn means<R: Clock + AllocGlobal>(rt: &R, planes: &Planes) -> io::Result<Evaluation>
     requires within { (read : ℕ) → read < MOST_READS → slice_index planes.now.starts read + POSITIONS ≤ length planes.now.numbers.now }
 {
-    let code = code_of(rt.alloc(), &five_point_mean(rt.alloc())?)?;
-    let begun = Instant::now(rt)?;
-    let tally = by_code(&code, planes);
-    let evaluated = Instant::now(rt)?;
-    let other = mean_by_hand(planes);
-    let done = Instant::now(rt)?;
-    Ok(Evaluation::new([begun, evaluated, done], [tally, other]))
+    let code = code_of(rt.alloc(), five_point_mean(rt.alloc())?)?;
+    timed(rt, &code, planes, || mean_by_hand(planes))
 }
 
 // The expression `where(A < B, A, B + 1)` of two rows.
 fn choices<R: Clock + AllocGlobal>(rt: &R, planes: &Planes) -> io::Result<Evaluation>
     requires within { (read : ℕ) → read < MOST_READS → slice_index planes.now.starts read + POSITIONS ≤ length planes.now.numbers.now }
 {
-    let code = code_of(rt.alloc(), &choice(rt.alloc())?)?;
+    let code = code_of(rt.alloc(), choice(rt.alloc())?)?;
     let (a, b) = (row(planes, 0), row(planes, 1));
-    let begun = Instant::now(rt)?;
-    let tally = by_code(&code, planes);
-    let evaluated = Instant::now(rt)?;
-    let other = choice_by_hand(a, b);
-    let done = Instant::now(rt)?;
-    Ok(Evaluation::new([begun, evaluated, done], [tally, other]))
+    timed(rt, &code, planes, || choice_by_hand(a, b))
 }
 
 // `A + B * 3`, a five-point mean and `where(A < B, A, B + 1)`, in this order, once.
@@ -308,9 +323,26 @@ fn evaluate_all<R: Clock + AllocGlobal>(rt: &R, numbers: &[i64]) -> io::Result<[
     ])
 }
 
+// Writes what came of an expression, and how long it took.
+fn write_evaluation<R: Print + Eprint>(
+    rt: &R,
+    name: &str,
+    evaluation: Evaluation,
+) -> io::Result<()> {
+    let by_hand = if evaluation.is_same {
+        "the same"
+    } else {
+        "something else"
+    };
+    println!(rt;
+        "eval: {name} over {POSITIONS} positions, sum {}, by hand {by_hand}",
+        evaluation.sum
+    )?;
+    eprintln!(rt; "{name}: {evaluation}")
+}
+
 /// Evaluates three expressions over many positions, and writes what came of them and how long it took.
 pub fn report<R: Clock + AllocGlobal + Print + Eprint>(rt: &R) -> io::Result<()> {
-    let names = ["A + B * 3", "five-point mean", "where(A < B, A, B + 1)"];
     let numbers = numbers(rt.alloc())?;
     let mut evaluations = evaluate_all(rt, &numbers)?;
     for _ in 1..TURNS {
@@ -318,17 +350,8 @@ pub fn report<R: Clock + AllocGlobal + Print + Eprint>(rt: &R) -> io::Result<()>
         let [x, y, z] = evaluations;
         evaluations = [x.or_less(a), y.or_less(b), z.or_less(c)];
     }
-    for (name, evaluation) in names.iter().zip(&evaluations) {
-        let by_hand = if evaluation.is_same {
-            "the same"
-        } else {
-            "something else"
-        };
-        println!(rt;
-            "eval: {name} over {POSITIONS} positions, sum {}, by hand {by_hand}",
-            evaluation.sum
-        )?;
-        eprintln!(rt; "{name}: {evaluation}")?;
-    }
-    Ok(())
+    let [sum, mean, choice] = evaluations;
+    write_evaluation(rt, "A + B * 3", sum)?;
+    write_evaluation(rt, "five-point mean", mean)?;
+    write_evaluation(rt, "where(A < B, A, B + 1)", choice)
 }
