@@ -1,5 +1,5 @@
 //! Sums that are exact, whatever their parts.
-ghost use Rattle.std.specs.Prelude.{◌≡◌, ◌+◌, ◌^◌, ◌<◌, ◌≤◌, pos};
+ghost use Rattle.std.specs.Prelude.{◌≡◌, ◌+◌, ◌*◌, ◌^◌, ◌<◌, ◌≤◌, pos, unsigned_abs};
 ghost use Rattle.pooma_num.specs.Exact.{IsExact};
 ghost use Rattle.pooma_num.specs.Sum.{merged, pushed};
 
@@ -53,6 +53,16 @@ impl Total {
     {
         self.number += i128::from(v);
         self.count += 1;
+    }
+
+    /// Adds a row of `count` numbers by its sum, which is then one addition for all of them.
+    pub fn add_row(&mut self, sum: i128, count: u32)
+        requires room { self.old.count + count ≤ 2 ^ 23 }
+        requires sum_of_64_bits { unsigned_abs sum ≤ count * 2 ^ 63 }
+        ensures { self.new ≡ merged self.old (record { number = sum; count = count }) }
+    {
+        self.number += sum;
+        self.count += count;
     }
 
     /// Adds the numbers of another total.
