@@ -1,14 +1,15 @@
 #!/usr/bin/env bash
-# The first run of `./pooma`, over a repository of two small crates in a temporary folder: without `rt`, two at once with
-# standard error in a file, and with a source that is not proved. Ends with the number of checks.
+# The first run of `./pooma`, over a repository of three small crates in a temporary folder: without `rt`, two at once with
+# standard error in a file, one that is interrupted, with files that cannot grow, and with one source that is not proved among others
+# that are. Ends with the number of checks.
 set -u
 cd "$(dirname "$0")/.." || exit 1
 room=$(mktemp -d) || exit 1
 trap 'rm -rf "$room"' EXIT
 cp pooma HANDLES "$room"
 cd "$room" || exit 1
-mkdir -p crates/below/src crates/pooma/src
-printf 'below:\npooma: below\n' >crates.txt
+mkdir -p crates/below/src crates/beside/src crates/pooma/src crates/pooma_tests/src
+printf '# lowest first\nbelow:\nbeside:\npooma: below beside\npooma_tests: below\n' >crates.txt
 cat >crates/below/src/lib.rt <<'RATTLE'
 #![tactic(auto)]
 
@@ -21,14 +22,18 @@ pub fn answer() -> u32
     42
 }
 RATTLE
+sed 's/42/8/; s/answer/width/; s/What the program prints/How wide that is/' crates/below/src/lib.rt >crates/beside/src/lib.rt
+# a crate that the program does not stand on, which is not proved
+sed 's/    42$/    41/' crates/below/src/lib.rt >crates/pooma_tests/src/lib.rt
 cat >crates/pooma/src/main.rt <<'RATTLE'
 #![tactic(auto)]
 
 use below::answer;
+use beside::width;
 use std::io;
 
 fn main(rt: HostRuntime) -> io::Result<()> {
-    println!(rt; "{}", answer())
+    println!(rt; "{} {}", answer(), width())
 }
 RATTLE
 passed=0
@@ -50,29 +55,43 @@ check 'without rt: the status' [ $? -eq 69 ]
 check 'without rt: no output' [ -z "$out" ]
 check 'without rt: what to do' grep -q 'PATH=KIT/bin' said
 
+(ulimit -f 8; ./pooma run 1 2>said >out)
+check 'files that cannot grow: the status' [ $? -eq 70 ]
+check 'files that cannot grow: no output' [ ! -s out ]
+check 'files that cannot grow: no program' [ ! -e crates/pooma/out/pooma ]
+
+setsid ./pooma run 1 >out 2>said &
+first=$!
+until grep -q '^pooma: proving and building, 1 of 3' said; do sleep 0.2; done
+kill -TERM "$first"
+wait "$first"
+check 'interrupted: the status' [ $? -eq 143 ]
+check 'interrupted: nothing goes on' [ -z "$(pgrep -f "^[^ ]*rattle .*--crate-name (below|beside|pooma) .*" -s "$first")" ]
+
 ./pooma run 1 >first.out 2>first.said &
 first=$!
 ./pooma run 1 >second.out 2>second.said
 check 'two at once: the status of one' [ $? -eq 0 ]
 wait $first
 check 'two at once: the status of the other' [ $? -eq 0 ]
-check 'two at once: both outputs' [ "$(cat first.out second.out)" = $'42\n42' ]
-check 'two at once: one builds, and the other waits' \
-    [ "$(cat first.said second.said | sort | cut -d, -f1-2)" = \
-    $'pooma: proving and building below, 1 of 2\npooma: proving and building pooma, 2 of 2\npooma: waiting for another run to build the program' ]
+check 'two at once: both outputs' [ "$(cat first.out second.out)" = $'42 8\n42 8' ]
+check 'two at once: one waits' [ "$(grep -c 'waiting for another run' first.said second.said | cut -d: -f2 | sort | tr -d '\n')" = 01 ]
+check 'two at once: one builds' [ "$(cat first.said second.said | grep -c '^pooma: proving and building, 3 of 3 crates done')" -eq 1 ]
 
 out=$(./pooma run 1 2>said)
-check 'built: the output alone' [ "$out$(cat said)" = 42 ]
+check 'built: the output alone' [ "$out$(cat said)" = '42 8' ]
 
 sed -i 's/^    42$/    43/' crates/below/src/lib.rt
+sed -i 's/How wide/How very wide/' crates/beside/src/lib.rt
 out=$(./pooma run 1 2>said)
 check 'not proved: the status' [ $? -eq 70 ]
 check 'not proved: no output' [ -z "$out" ]
-check 'not proved: the file is named' grep -q "below was not proved or not built; $(pwd)/crates/below/out/build.log has" said
-check 'not proved: its last lines' [ "$(tail -n 1 said)" = "$(tail -n 1 crates/below/out/build.log)" ]
+check 'not proved: the file is named' grep -q "below was not proved or not built; $(pwd)/.build/below.log has" said
+check 'not proved: its last lines' [ "$(tail -n 1 said)" = "$(tail -n 1 .build/below.log)" ]
+check 'not proved: what stands beside it is' grep -qx 'beside: ok' .build/build.log
 
 sed -i 's/^    43$/    42/' crates/below/src/lib.rt
 out=$(./pooma run 1 2>said)
-check 'mended: the output' [ "$out" = 42 ]
+check 'mended: the output' [ "$out" = '42 8' ]
 echo "first run: $passed passed, $failed failed"
 [ "$failed" -eq 0 ]
