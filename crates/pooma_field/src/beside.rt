@@ -1,3 +1,4 @@
+//! The slabs of cells beside the physical domain, in the order in which a field takes their values.
 ghost use Rattle.std.specs.Prelude.{◌≡◌, ◌++◌, true, false, ◌<◌, nat_lt, [], ◌∷◌, length, filter, IsSome, IfOk, OnOk};
 ghost use Rattle.pooma_domain.specs.Axes.{interval_of};
 ghost use Rattle.pooma_domain.specs.Cells.{axis_length, IsAxis, IsBox};

@@ -1,3 +1,4 @@
+//! The updaters of a field's faces.
 ghost use Rattle.std.specs.Prelude.{◌≡◌, ◌⊎◌, ◌<◌, pos, Some, length, map, slice_get, slice_index_or};
 
 use crate::updaters::Updater;

@@ -1,3 +1,4 @@
+//! The laws of boxes of numbers, of looking a cell up, and of slabs, for the proofs of the crates above. Each does nothing.
 ghost use Rattle.std.specs.Prelude.{◌≡◌, ◌≢◌, ℕ, ◌<◌, ◌≤◌, ℤ, pos, Some, None, IsSome, option_map, List, length, map, slice_get, slice_set, All, AllPairs, Contains};
 ghost use Rattle.pooma_domain.specs.Cells.{Interval, cells_of, IsIn};
 ghost use Rattle.pooma_field.specs.declared.faces.Ends.{Ends};

@@ -1,3 +1,4 @@
+//! The shape of an array: its domains, and for a field its faces.
 ghost use Rattle.std.specs.Prelude.{◌≡◌, ◌↔◌, pos, ◌-ℤ◌, ◌≤ℤ◌, length, IsTrue, IsSome, IfSome, IsNone};
 ghost use Rattle.std.specs.Option.{ForSome};
 ghost use Rattle.pooma_domain.specs.Axes.{interval_of};

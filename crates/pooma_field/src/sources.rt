@@ -1,3 +1,4 @@
+//! The cell from which an updater takes a value.
 ghost use Rattle.std.specs.Prelude.{◌≡◌, ◌≢◌, ◌↔◌, ℕ, Some, slice_get, IsTrue, IsSome};
 ghost use Rattle.pooma_domain.specs.Axes.{interval_of};
 ghost use Rattle.pooma_domain.specs.Cells.{IsIn};

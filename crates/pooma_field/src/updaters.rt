@@ -1,3 +1,4 @@
+//! What gives a field its values beside the physical domain.
 ghost use Rattle.std.specs.Prelude.{◌≡◌, ◌↔◌, ◌^◌, ◌<◌, ◌≤◌, pos, neg_ℤ, ◌*ℤ◌, unsigned_abs, IsTrue};
 ghost use Rattle.pooma_field.specs.Updaters.{clamped, extrapolation, IsConstant};
 

@@ -1,3 +1,4 @@
+//! The laws of what statements do to worlds, for the proofs of the crates above. Each does nothing.
 ghost use Rattle.std.specs.Prelude.{◌≡◌, ◌≢◌, ◌↔◌, ℕ, ◌+◌, true, false, ℤ, Option, Some, None, List, [], ◌++◌, length, map, take, slice_get, All, AllPairs, Contains};
 ghost use Rattle.std.specs.List.Sorted.{IsPermutation};
 ghost use Rattle.pooma_domain.specs.Cells.{Interval, IsBefore, IsIn, cells_of};

@@ -1,3 +1,4 @@
+//! The law of cut positions, for the proofs of the crates above. It does nothing.
 ghost use Rattle.std.specs.Prelude.{◌≡◌, ℕ, List, map};
 ghost use Rattle.pooma_domain.specs.Cells.{Interval};
 ghost use Rattle.pooma_view.specs.Views.{Viewed};
