@@ -1,0 +1,4 @@
+mod Bits
+mod Marks
+mod Places
+mod Signs
