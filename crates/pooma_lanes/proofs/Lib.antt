@@ -1,4 +1,5 @@
 mod Bits
+mod Chosen
 mod Marks
 mod Places
 mod Signs

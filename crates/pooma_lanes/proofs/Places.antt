@@ -1,10 +1,10 @@
 -- How far a row is done: one place more, one block more, and the two parts together.
-use Rattle.std.proofs.Common.{◌≡◌, ◌≢◌, ℕ, ◌+◌, ◌-◌, ◌<◌, ◌≤◌, ℤ, pos, ◌⊎◌, inl, inr, List, length, set, refl, sym, ◌∙◌, subst, Result, Ok, Err, arith, get_or-set_same, get_or-set_other}
+use Rattle.std.proofs.Common.{◌≡◌, ◌≢◌, ℕ, ◌+◌, ◌-◌, ◌<◌, ◌≤◌, ℤ, pos, ◌⊎◌, inl, inr, List, length, set, refl, sym, ◌∙◌, ap, subst, Result, Ok, Err, arith, get_or-set_same, get_or-set_other}
 use lib.Lanes.{put_chunk}
 use Rattle.std.proofs.lemmas.Simd.{get_or-put_chunk_below, get_or-put_chunk_at, get_or-put_chunk_above}
 use Rattle.pooma_num.specs.declared.fault.FaultKind.{FaultKind}
 use Rattle.pooma_lanes.specs.declared.row.Place.{Place}
-use Rattle.pooma_lanes.specs.Rows.{at_place, IsDoneUpTo, IsDoneBetween, IsDoneFrom, IsDone}
+use Rattle.pooma_lanes.specs.Rows.{at_place, IsDoneUpTo, IsDoneBetween, IsDoneFrom, IsDone, IsEach}
 
 below_or_not : (k n : ℕ) → (k < n) ⊎ (n ≤ k)
 below_or_not k n = grind arith
@@ -52,3 +52,11 @@ module _ (A : ℕ → Result ℤ FaultKind → Type 0) where
       → IsDoneFrom A at result mid new → IsDone A result old new
   whole old mid new at (Ok u) le long first then = subst (IsDoneUpTo A old new) long (both_parts old mid new at (length mid) first then (omega (arith, le, long)))
   whole old mid new at (Err place) le long first then = (omega (arith, then.1, long), both_parts old mid new at place.0 first then.2 then.0, then.3)
+
+-- where no place has a fault, each has its number
+pub each_done : (f : ℕ → ℤ) (old new : List ℤ) (result : Result (Unit {0}) Place) → length new ≡ length old → IsDone (λ k r. r ≡ Ok (f k)) result old new → IsEach f new
+each_done f old new (Ok u) long done = λ k lt. number (done.results k (omega (arith, lt, long)))
+  where
+    number : {x y : ℤ} → ◌≡◌ {A = Result ℤ FaultKind} (Ok x) (Ok y) → x ≡ y
+    number {x = x} e = ap (elim [ Ok z ↦ z | Err _ ↦ x ]) e
+each_done f old new (Err place) long done = absurd (cc done.2.1)

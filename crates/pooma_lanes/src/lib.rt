@@ -5,8 +5,10 @@
 
 mod block;
 mod kernel;
+mod orders;
 mod row;
 mod sums;
 
+pub use orders::{Compare, compare_rows, max_rows, min_rows};
 pub use row::{Place, Row};
 pub use sums::{add_rows, sub_rows};
