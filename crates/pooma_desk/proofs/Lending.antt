@@ -1,5 +1,5 @@
 -- What a dispatch and a release of a pass rest on.
-use Rattle.std.proofs.Common.{◌≡◌, ◌<◌, ℕ, true, List, [], ◌∷◌, ◌++◌, length, drop, Contains, sym, ap, ◌∙◌, subst, ◌⊎◌, inl, inr, arith, append_assoc, append-nil, length-append}
+use Rattle.std.proofs.Common.{◌≡◌, ◌<◌, ℕ, true, List, [], ◌∷◌, ◌++◌, length, drop, Contains, refl, sym, ap, ◌∙◌, subst, ◌⊎◌, inl, inr, arith, append_assoc, append-nil, length-append}
 use Rattle.std.specs.Prelude.{◌↔◌, Option, Some, None, IsTrue, slice_get}
 use Rattle.std.proofs.lemmas.List.{map-append}
 use Rattle.std.proofs.lemmas.List.Elements.{filter_map-append, Contains-push, Contains-push_cases, Contains-append_right}
@@ -8,14 +8,14 @@ use Rattle.atomic_table.specs.Seated.{TableId}
 use Rattle.pooma_machine.specs.declared.step.Event.{Event}
 use Rattle.pooma_machine.specs.declared.step.EventKind.TheVariants as kind
 use Rattle.pooma_machine.specs.Steps.{Comes, MayCome, IsWaiting, issued, status_of, is_out, is_released, event_of}
-use Rattle.pooma_machine.specs.Values.{Account, Meaning, Values, Lent, values, asks_of}
+use Rattle.pooma_machine.specs.Values.{Account, Meaning, Loaned, Values, Lent, values, asks_of}
 use Rattle.pooma_law.specs.Histories.{IsHistoryOf}
 use Rattle.pooma_desk.specs.declared.sight.Noted.{Noted}
 use Rattle.pooma_desk.specs.Sight.{Sight}
 use Rattle.pooma_desk.specs.Seen.{events_of, works_of, plan_after, history_after, is_one_of}
 use Rattle.pooma_desk.specs.Rule.{IsAfter, MayNote, first_of}
 use Rattle.pooma_desk.specs.Steps.{noting}
-use Rattle.pooma_desk.specs.Tokens.{Token, Looks, Adds, AddsTwo, HasOut, own_calls, plan_of, history_of, values_after, token_of, called}
+use Rattle.pooma_desk.specs.Tokens.{Token, Looks, Adds, AddsTwo, HasOut, IsLoanOf, own_calls, plan_of, history_of, values_after, token_of, called}
 use Rattle.pooma_desk.specs.Turns.{IsPlaced, IsSeenLegal}
 use Rattle.pooma_desk.proofs.Calls.{IsOut, as_event, there_under, under_there, event_there, not_released, get_front, own_first, may_dispatch}
 use Rattle.pooma_desk.proofs.Fronts.{calls_more}
@@ -97,6 +97,34 @@ module _ {W V : Type 0} where
       let history : machine.history ≡ history_of pass ++ events_of looks.more = after.history ∙ history_grows desk pass v looks in
       let opening : machine.opening ≡ pass.from.machine.opening = after.opening ∙ ap (λ s. s.machine.opening) looks.same.from in
       is ∙ (ap (λ (x : Values V O). x.lent j) (sym longer) ∙ (sym later ∙ ap (λ (x : Values V O). x.lent j) (λ i. values meaning (sym plan i) (sym opening i) (sym history i))))
+
+  -- a loan of the pass's stays one as others make their calls
+  out_stays : (pass now : Token W V) (number : ℕ) → own_calls now ≡ own_calls pass → HasOut pass number → HasOut now number
+  out_stays pass now number same out = record {
+    dispatch = out.dispatch;
+    there = subst (λ l. Contains l out.dispatch) (sym same) out.there;
+    lent = out.lent;
+    entry = out.entry;
+    kept = λ n at back of. out.kept n (subst (λ l. Contains l n) same at) back of;
+  }
+
+  pub loan_in_turn : {O S : Type 0} (meaning : Meaning W V O S) (desk : TableId) (pass : Token W V) (v : Sight W V) (machine : Account W V) (loan : Loaned W V) (looks : Looks pass (token_of desk v)) → IsAfter v.start.machine machine v.seen
+      → values meaning (plan_of pass ++ works_of looks.more) pass.from.machine.opening (history_of pass) ≡ values meaning (plan_of pass) pass.from.machine.opening (history_of pass)
+      → (values meaning (plan_of pass ++ works_of looks.more) pass.from.machine.opening (history_of pass ++ events_of looks.more)).lent loan.entry ≡ (values meaning (plan_of pass ++ works_of looks.more) pass.from.machine.opening (history_of pass)).lent loan.entry
+      → IsLoanOf meaning pass loan → IsLoanOf meaning (token_of desk v) loan
+  loan_in_turn {O = O} meaning desk pass v machine loan looks after longer later h = record {
+    out = out_stays pass (token_of desk v) loan.entry looks.own h.out;
+    work = ap (λ l. slice_get l loan.entry) (plan_grows desk pass v looks) ∙ get_front (plan_of pass) (works_of looks.more) loan.entry loan.work h.work;
+    lent = lent_in_turn meaning desk pass v machine loan.entry loan.lent looks after longer later h.lent ∙ ap (λ (x : Values V O). x.lent loan.entry) (values_told meaning desk (token_of desk v) v machine refl after);
+  }
+
+  pub looks_self : (pass : Token W V) → Looks pass pass
+  looks_self pass = record {
+    same = record { from = refl; seat = refl; joined = refl; shares = refl; left = refl };
+    more = [];
+    seen = sym (append-nil pass.seen);
+    own = refl;
+  }
 
   -- what the pass has out is out in the machine
   pub out_in_machine : {O S : Type 0} (meaning : Meaning W V O S) (pass : Token W V) (v : Sight W V) (machine : Account W V) (number : ℕ) → IsAfter v.start.machine machine v.seen → IsSeenLegal meaning v → IsOut pass v number

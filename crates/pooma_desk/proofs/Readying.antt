@@ -16,7 +16,7 @@ use Rattle.pooma_desk.specs.declared.sight.Noted.{Noted}
 use Rattle.pooma_desk.specs.Sight.{Sight}
 use Rattle.pooma_desk.specs.Seen.{events_of, works_of, plan_after, history_after}
 use Rattle.pooma_desk.specs.Steps.{noting}
-use Rattle.pooma_desk.specs.Readied.{EndsWith, IsReadied, IsLeastReadied, NoneReadied}
+use Rattle.pooma_desk.specs.Readied.{EndsWith, IsReadied, IsLeastReadied, NoneReadied, TellsReadied}
 use Rattle.pooma_desk.specs.Tokens.{Token, plan_of, history_of, token_of, called}
 
 -- an entry that may be dispatched is one of those that were issued
@@ -59,6 +59,15 @@ first_is_readied plan before history event woken j is (k ∷ ks, list, names) fi
 pub none_is_readied : (plan : List (List Request)) (before history : List Event) (event : Event) (woken : Woken) → history ≡ before ++ event ∷ [] → TellsReady plan before history woken → ((j : ℕ) → slice_get woken.entries 0 ≡ Some j → ⊥) → NoneReadied plan before event
 none_is_readied plan before history event woken is ([], list, names) none = λ j readied. contains_none j ((list.exactly j).1 (of_readied plan before history event j is readied))
 none_is_readied plan before history event woken is (k ∷ ks, list, names) none = absurd (none k (ap (λ l. slice_get l 0) names.0))
+
+-- what is told of a history that ends with the event is told of each that goes on from it
+pub told_readied : (plan : List (List Request)) (before history whole later : List Event) (event : Event) (woken : Woken) → history ≡ before ++ event ∷ [] → TellsReady plan before history woken → whole ≡ before ++ event ∷ later → TellsReadied plan whole event woken
+told_readied plan before history whole later event woken ends tells stands = record {
+  before = before;
+  later = later;
+  stands = stands;
+  tells = subst (λ h. TellsReady plan before h woken) ends tells;
+}
 
 module _ {W V : Type 0} where
   -- a dispatch requests no work, and is one event more

@@ -37,9 +37,13 @@ module _ {W V : Type 0} where
   abbrev pub taking : Sight W V → List (Noted W) → Sight W V
   taking v log = record { start = v.start; seats = v.seats; next = v.next; shares = v.shares; seen = log; others = v.others; told = v.told; holds = true }
 
+  -- its list ends with these events
+  abbrev pub noting_all : Sight W V → List (Noted W) → Sight W V
+  noting_all v ns = record { start = v.start; seats = v.seats; next = v.next; shares = v.shares; seen = v.seen ++ ns; others = v.others; told = v.told; holds = v.holds }
+
   -- step 5: its list ends with one more event
   abbrev pub noting : Sight W V → Noted W → Sight W V
-  noting v n = record { start = v.start; seats = v.seats; next = v.next; shares = v.shares; seen = v.seen ++ n ∷ []; others = v.others; told = v.told; holds = v.holds }
+  noting v n = noting_all v (n ∷ [])
 
   -- step 7: it has left the turn
   abbrev pub leaving : Sight W V → Sight W V

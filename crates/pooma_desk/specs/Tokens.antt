@@ -1,11 +1,11 @@
 -- What contracts see of a desk and of a pass, and what a call does to a pass.
-use Rattle.std.specs.Prelude.{◌≡◌, ◌-◌, ◌++◌, ℕ, List, ◌∷◌, [], drop, Some, None, Contains}
+use Rattle.std.specs.Prelude.{◌≡◌, ◌+◌, ◌-◌, ◌++◌, ℕ, List, ◌∷◌, [], drop, length, map, slice_get, Some, None, Contains}
 use Rattle.std.specs.List.{range_with_len}
 use Rattle.atomic_table.specs.Seated.{TableId}
 use Rattle.pooma_machine.specs.declared.step.Event.{Event}
 use Rattle.pooma_machine.specs.declared.step.EventKind.{EventKind}
 use Rattle.pooma_machine.specs.declared.step.EventKind.TheVariants as kind
-use Rattle.pooma_machine.specs.Values.{Account, Values, Meaning}
+use Rattle.pooma_machine.specs.Values.{Account, Loaned, Values, Meaning}
 use Rattle.pooma_machine.specs.Values.{values as values_of}
 use Rattle.pooma_law.specs.Histories.{IsHistoryOf}
 use Rattle.pooma_desk.specs.declared.sight.Noted.{Noted}
@@ -72,20 +72,20 @@ pub record Looks {W V : Type 0} (old new : Token W V) : Type 0 where
   pub seen : new.seen ≡ old.seen ++ more
   pub own : own_calls new ≡ own_calls old
 
--- the pass has seen what it had seen, maybe more, and last this event, which is the one call that it has made
-pub record Adds {W V : Type 0} (old new : Token W V) (event : Noted W) : Type 0 where
+-- the pass has seen what it had seen, maybe more, and last these events, one right behind the other, which are the calls that it
+-- has made
+pub record AddsAll {W V : Type 0} (old new : Token W V) (events : List (Noted W)) : Type 0 where
   pub same : IsSamePass old new
   pub between : List (Noted W)
-  pub seen : new.seen ≡ (old.seen ++ between) ++ event ∷ []
-  pub own : own_calls new ≡ own_calls old ++ event ∷ []
+  pub seen : new.seen ≡ (old.seen ++ between) ++ events
+  pub own : own_calls new ≡ own_calls old ++ events
 
--- the pass has seen what it had seen, maybe more, and last these two events, one right behind the other, which are the two
--- calls that it has made
-pub record AddsTwo {W V : Type 0} (old new : Token W V) (one other : Noted W) : Type 0 where
-  pub same : IsSamePass old new
-  pub between : List (Noted W)
-  pub seen : new.seen ≡ (old.seen ++ between) ++ one ∷ other ∷ []
-  pub own : own_calls new ≡ own_calls old ++ one ∷ other ∷ []
+-- one event, and two
+abbrev pub Adds : {W V : Type 0} → Token W V → Token W V → Noted W → Type 0
+Adds old new event = AddsAll old new (event ∷ [])
+
+abbrev pub AddsTwo : {W V : Type 0} → Token W V → Token W V → Noted W → Noted W → Type 0
+AddsTwo old new one other = AddsAll old new (one ∷ other ∷ [])
 
 -- an event that is no request, and the request of a work
 abbrev pub called : {W : Type 0} → EventKind → ℕ → ℕ → Noted W
@@ -93,6 +93,18 @@ called kind entry seat = record { event = record { kind = kind; entry = entry; s
 
 abbrev pub requested : {W : Type 0} → ℕ → ℕ → W → Noted W
 requested entry seat work = record { event = record { kind = kind.Request; entry = entry; seat = seat }; work = Some work }
+
+-- such events of one kind at a seat, of these entries in order; the requests of these works in order, as entries from this one on
+abbrev pub all_called : {W : Type 0} → EventKind → ℕ → List ℕ → List (Noted W)
+all_called kind seat entries = map (λ entry. called kind entry seat) entries
+
+abbrev pub all_requested : {W : Type 0} → ℕ → ℕ → List W → List (Noted W)
+all_requested entry seat [] = []
+all_requested entry seat (work ∷ works) = requested entry seat work ∷ all_requested (entry + 1) seat works
+
+-- the entries of loans, or of what comes back for them
+abbrev pub entries_of : {W V : Type 0} → List (Loaned W V) → List ℕ
+entries_of loans = map (λ loan. loan.entry) loans
 
 -- what a pass is to contracts, from what is known at its place
 abbrev pub token_of : {W V : Type 0} → TableId → Sight W V → Token W V
@@ -128,3 +140,17 @@ pub record HasOut {W V : Type 0} (pass : Token W V) (number : ℕ) : Type 0 wher
   pub lent : dispatch.event.kind ≡ kind.Dispatch
   pub entry : dispatch.event.entry ≡ number
   pub kept : (n : Noted W) → Contains (own_calls pass) n → n.event.kind ≡ kind.Release → n.event.entry ≡ number → ⊥
+
+-- a loan of this pass's, or what comes back for it: the pass has the entry out, with its work and with what was lent to it
+pub record IsLoanOf {W V O S : Type 0} (meaning : Meaning W V O S) (pass : Token W V) (loan : Loaned W V) : Type 0 where
+  pub out : HasOut pass loan.entry
+  pub work : slice_get (plan_of pass) loan.entry ≡ Some loan.work
+  pub lent : loan.lent ≡ (values_after meaning pass).lent loan.entry
+
+-- a list of works as a pass requests it: those before the rest were requested, in order, one event each, as the entries from
+-- the first on, with which the plan ends
+pub record RequestsAll {W V : Type 0} (old new : Token W V) (works rest : List W) (first : ℕ) : Type 0 where
+  pub asked : List W
+  pub cut : works ≡ asked ++ rest
+  pub adds : AddsAll old new (all_requested first old.seat asked)
+  pub entries : first + length asked ≡ length (plan_of new)

@@ -8,9 +8,9 @@ ghost use Rattle.pooma_machine.specs.Causes.{Explains};
 ghost use Rattle.pooma_machine.specs.Became.{TellsReady};
 ghost use Rattle.pooma_desk.specs.Rule.{IsAfter};
 ghost use Rattle.pooma_desk.specs.Steps.{noting};
-ghost use Rattle.pooma_desk.specs.Tokens.{Adds, AddsTwo, Looks, HasOut, IsLegalFor, plan_of, history_of, values_after, called, token_of};
+ghost use Rattle.pooma_desk.specs.Tokens.{Adds, AddsTwo, Looks, HasOut, IsLegalFor, IsLoanOf, plan_of, history_of, values_after, called, token_of};
 ghost use Rattle.pooma_desk.specs.Turns.{IsInTurn};
-ghost use Rattle.pooma_desk.specs.Readied.{EndsWith, IsLeastReadied, NoneReadied};
+ghost use Rattle.pooma_desk.specs.Readied.{EndsWith, IsLeastReadied, NoneReadied, TellsReadied};
 
 use crate::desk::Desk;
 use crate::pass::Pass;
@@ -68,14 +68,14 @@ impl<W: Work> Desk<W> {
     /// Releases an entry that this pass, or one that was joined into it, has out, and in the same turn dispatches the least
     /// entry that became ready by it, so that no other pass can be faster. It waits for the turn once. It answers the loan of
     /// that entry, or none exactly where none became ready. Only want of memory refuses the dispatch; the entry is released
-    /// all the same, and the other is as ready as before.
+    /// all the same, and the other is as ready as before. Beside it stands what became ready, the dispatched one first.
     pub fn release_and_dispatch<R: Wait>(
         &self,
         rt: &R,
         alloc: Global,
         pass: Pass<W>,
         done: Done<W>,
-    ) -> (Pass<W>, Result<Option<Loan<W>>, AllocError>)
+    ) -> (Pass<W>, Result<Option<Loan<W>>, AllocError>, Became)
         requires desk { pass.from ≡ self.now }
         requires out { HasOut pass done.entry }
         requires work { slice_get (plan_of pass) done.entry ≡ Some done.work }
@@ -99,25 +99,26 @@ impl<W: Work> Desk<W> {
         ensures ready { OnErr result.1 (
             EndsWith (history_of result.0) (event_of kind.Release done.entry pass.seat ∷ [])
             (λ before. (j : ℕ) × IsLeastReadied (asks_of W.meaning (plan_of result.0)) before (event_of kind.Release done.entry pass.seat) j)) }
+        ensures became { TellsReadied (asks_of W.meaning (plan_of result.0)) (history_of result.0) (event_of kind.Release done.entry pass.seat) result.2 }
         ensures legal { IsLegalFor W.meaning result.0 }
     {
         legal_histories_tell::<W>();
         let (mut turn, became) = self.enter_and_release(rt, pass, done);
         let _ = turn.machine.history();
         let Some(next) = became.entries().first().copied() else {
-            return (self.leave(turn), Ok(None));
+            return (self.leave(turn), Ok(None), became);
         };
         match self.dispatch_in_turn(&mut turn, alloc, next) {
-            Ok(loan) => (self.leave(turn), Ok(Some(loan))),
+            Ok(loan) => (self.leave(turn), Ok(Some(loan)), became),
             Err(error) => match error {
-                DispatchError::OutOfMemory => (self.leave(turn), Err(AllocError)),
+                DispatchError::OutOfMemory => (self.leave(turn), Err(AllocError), became),
                 _ => unreachable!(),
             },
         }
     }
 
-    // Dispatches an entry in the turn, and notes it. Where it is refused, nothing changes.
-    fn dispatch_in_turn(
+    /// Dispatches an entry in the turn, and notes it. Where it is refused, nothing changes.
+    pub(crate) fn dispatch_in_turn(
         &self,
         turn: &mut Turn<W>,
         alloc: Global,
@@ -160,9 +161,7 @@ impl<W: Work> Desk<W> {
     // Takes the turn, releases the entry in it, and notes that.
     fn enter_and_release<R: Wait>(&self, rt: &R, pass: Pass<W>, done: Done<W>) -> (Turn<W>, Became)
         requires desk { pass.from ≡ self.now }
-        requires out { HasOut pass done.entry }
-        requires work { slice_get (plan_of pass) done.entry ≡ Some done.work }
-        requires lent { done.lent ≡ (values_after W.meaning pass).lent done.entry }
+        requires loan { IsLoanOf W.meaning pass done }
         ensures desk { result.0.place.table_id ≡ self.now.desk }
         ensures seat { result.0.seat ≡ pass.seat }
         ensures turn { IsInTurn result.0.place.me result.0.seat result.0.next }
@@ -171,10 +170,31 @@ impl<W: Work> Desk<W> {
         ensures became { EndsWith (history_of (token_of self.now.desk result.0.place.me.0)) (event_of kind.Release done.entry pass.seat ∷ [])
             (λ before. TellsReady (asks_of W.meaning (plan_of (token_of self.now.desk result.0.place.me.0))) before (history_of (token_of self.now.desk result.0.place.me.0)) result.1) }
     {
-        legal_histories_grow::<W>();
         legal_histories_tell::<W>();
         values_stay::<W>();
         let mut turn = self.enter(rt, pass);
+        let _ = turn.machine.history();
+        let became = self.release_in_turn(&mut turn, done);
+        (turn, became)
+    }
+
+    /// Releases in the turn an entry that the pass has out, and notes it.
+    pub(crate) fn release_in_turn(&self, turn: &mut Turn<W>, done: Done<W>) -> Became
+        requires desk { turn.old.place.table_id ≡ self.now.desk }
+        requires start { turn.old.place.me.0.start.machine ≡ self.now.machine }
+        requires turn { IsInTurn turn.old.place.me turn.old.seat turn.old.next }
+        requires after { IsAfter turn.old.place.me.0.start.machine turn.old.machine turn.old.place.me.0.seen }
+        requires loan { IsLoanOf W.meaning (token_of self.now.desk turn.old.place.me.0) done }
+        ensures desk { turn.new.place.table_id ≡ self.now.desk }
+        ensures seat { turn.new.seat ≡ turn.old.seat }
+        ensures turn { IsInTurn turn.new.place.me turn.new.seat turn.new.next }
+        ensures after { IsAfter turn.new.place.me.0.start.machine turn.new.machine turn.new.place.me.0.seen }
+        ensures noted { turn.new.place.me ≡ (noting turn.old.place.me.0 (called kind.Release done.entry turn.old.seat), turn.old.place.me.1) }
+        ensures became { EndsWith (history_of (token_of self.now.desk turn.new.place.me.0)) (event_of kind.Release done.entry turn.old.seat ∷ [])
+            (λ before. TellsReady (asks_of W.meaning (plan_of (token_of self.now.desk turn.new.place.me.0))) before (history_of (token_of self.now.desk turn.new.place.me.0)) result) }
+    {
+        legal_histories_grow::<W>();
+        legal_histories_tell::<W>();
         let _ = turn.machine.history();
         let released = Event {
             kind: EventKind::Release,
@@ -183,6 +203,6 @@ impl<W: Work> Desk<W> {
         };
         let became = turn.machine.release(turn.seat, done);
         self.note_called(&mut turn.place, &turn.machine, released);
-        (turn, became)
+        became
     }
 }

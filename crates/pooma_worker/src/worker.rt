@@ -93,7 +93,7 @@ fn follow<W: Work, G: Gate, R: Wait>(
     let mut pass = lent;
     for _ in rt.forever() {
         gate.before(loan.entry());
-        let (after, answer) = desk.release_and_dispatch(rt, alloc, pass, loan.perform());
+        let (after, answer, _) = desk.release_and_dispatch(rt, alloc, pass, loan.perform());
         let Ok(next) = answer else {
             return Worked {
                 pass: after,

@@ -1,12 +1,13 @@
-use Rattle.std.proofs.Common.{◌≡◌, ℕ, length, [], ◌∷◌, Some, refl, sym, ap, ◌∙◌, subst, slice_get}
+use Rattle.std.proofs.Common.{◌≡◌, ℕ, length, [], ◌∷◌, ◌++◌, Some, refl, sym, ap, ◌∙◌, subst, slice_get}
 use Rattle.pooma_machine.specs.declared.step.EventKind.TheVariants as kind
 use Rattle.pooma_machine.specs.Steps.{IsReady, event_of}
 use Rattle.pooma_machine.specs.Values.{asks_of}
-use Rattle.pooma_desk.specs.Readied.{EndsWith, IsLeastReadied, NoneReadied}
+use Rattle.pooma_machine.specs.Became.{TellsReady}
+use Rattle.pooma_desk.specs.Readied.{EndsWith, IsLeastReadied, NoneReadied, TellsReadied}
 use Rattle.pooma_desk.specs.Tokens.{Started, Adds, AddsTwo, HasOut, called, plan_of, history_of, values_after, token_of}
 use Rattle.pooma_desk.proofs.Turning.{legal_seen}
 use Rattle.pooma_desk.proofs.Lending.{adds_then}
-use Rattle.pooma_desk.proofs.Readying.{first_is_readied, none_is_readied, ready_is_issued, ends_then}
+use Rattle.pooma_desk.proofs.Readying.{first_is_readied, none_is_readied, ready_is_issued, ends_then, told_readied}
 use Rattle.pooma_desk.proofs.desk.Desk.release_and_dispatch.Goals as goal
 
 pub returns-in_default-clause-released : goal.returns-in_default-clause-released
@@ -94,3 +95,32 @@ unreachable-requires g c =
     let least = first_is_readied asks e.became.0 (history_of now) release c.enter_and_release-turn.result.1 c.in-Some.next e.became.1 e.became.2 named in
     let ready = c.in-Err.ensures.succeeds (subst (λ h. IsReady asks h c.in-Some.next) (sym e.became.1) least.readied.0) in
     absurd (c.in_default-error.not-OutOfMemory ready)
+
+pub returns-in_default-clause-became : goal.returns-in_default-clause-became
+returns-in_default-clause-became g c =
+    let e = c.enter_and_release-turn.ensures in
+    let t = c.enter_and_release-turn.result.0 in
+    let now = token_of c.args.self.now.desk t.place.me.0 in
+    let release = event_of kind.Release c.args.done.entry c.args.pass.seat in
+    let told = told_readied (asks_of g.W.Work.meaning (plan_of now)) e.became.0 (history_of now) (history_of now) [] release c.enter_and_release-turn.result.1 e.became.1 e.became.2 e.became.1 in
+    subst (λ t. TellsReadied (asks_of g.W.Work.meaning (plan_of t)) (history_of t) release c.enter_and_release-turn.result.1) (sym c.leave.ensures.pass) told
+
+pub returns-in-Ok-clause-became : goal.returns-in-Ok-clause-became
+returns-in-Ok-clause-became g c =
+    let e = c.enter_and_release-turn.ensures in
+    let t = c.enter_and_release-turn.result.0 in
+    let now = token_of c.args.self.now.desk t.place.me.0 in
+    let release = event_of kind.Release c.args.done.entry c.args.pass.seat in
+    let woken = c.enter_and_release-turn.result.1 in
+    let r = c.leave-in-Ok.result in
+    let ends = ends_then c.args.self.now.desk r t.place.me.0 release c.in-Some.next t.seat (λ plan before. TellsReady (asks_of g.W.Work.meaning plan) before (before ++ release ∷ []) woken) _ _ (e.became.0, e.became.1, subst (λ h. TellsReady (asks_of g.W.Work.meaning (plan_of now)) e.became.0 h woken) e.became.1 e.became.2) c.in-Ok.ensures.noted c.leave-in-Ok.ensures.pass in
+    record { before = ends.0; later = event_of kind.Dispatch c.in-Some.next t.seat ∷ []; stands = ends.1; tells = ends.2 }
+
+pub returns-in-OutOfMemory-clause-became : goal.returns-in-OutOfMemory-clause-became
+returns-in-OutOfMemory-clause-became g c =
+    let e = c.enter_and_release-turn.ensures in
+    let t = c.enter_and_release-turn.result.0 in
+    let now = token_of c.args.self.now.desk t.place.me.0 in
+    let release = event_of kind.Release c.args.done.entry c.args.pass.seat in
+    let told = told_readied (asks_of g.W.Work.meaning (plan_of now)) e.became.0 (history_of now) (history_of now) [] release c.enter_and_release-turn.result.1 e.became.1 e.became.2 e.became.1 in
+    subst (λ t. TellsReadied (asks_of g.W.Work.meaning (plan_of t)) (history_of t) release c.enter_and_release-turn.result.1) (sym (c.leave-in-OutOfMemory.ensures.pass ∙ ap (λ m. token_of c.args.self.now.desk m.0) c.in-Err.ensures.err)) told
