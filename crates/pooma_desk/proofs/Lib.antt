@@ -10,3 +10,4 @@ pub mod Asking
 pub mod Lending
 pub mod Crosses
 pub mod Readying
+pub mod Several

@@ -27,6 +27,7 @@
 pub use desk::Desk;
 pub use look::Look;
 pub use pass::Pass;
+pub use request::Requested;
 
 mod desk;
 mod lend;

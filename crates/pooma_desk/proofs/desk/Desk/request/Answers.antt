@@ -1,48 +1,31 @@
-use Rattle.std.proofs.Common.{◌<◌, All, length, [], ◌∷◌, refl, sym, ap, ◌∙◌, subst, arith, length-append}
+use Rattle.std.proofs.Common.{◌<◌, All, length, map, refl, sym, ap, ◌∙◌, subst, arith}
 use Rattle.std.specs.Arc.{arc_value}
-use Rattle.pooma_desk.specs.Rule.{IsAfter}
-use Rattle.pooma_desk.specs.Tokens.{Started, Adds, requested}
+use Rattle.pooma_machine.specs.Machine.{FitsShapes}
+use Rattle.pooma_desk.specs.Tokens.{Started, Adds, Looks, requested, token_of}
 use Rattle.pooma_desk.proofs.Turning.{adds_at}
-use Rattle.pooma_desk.proofs.Calls.{may_request}
-use Rattle.pooma_desk.proofs.Asking.{asked_is, in_turn_noting, after_request, plan_told}
+use Rattle.pooma_desk.proofs.Asking.{plan_told}
 use Rattle.pooma_desk.proofs.desk.Desk.request.Goals as goal
 
-pub request-requires-clause-objects : goal.request-requires-clause-objects
-request-requires-clause-objects g c =
-    let opening = c.enter-turn.ensures.after.opening ∙ ap (λ (s : Started _ _). s.machine.opening) c.enter-turn.ensures.looks.same.from in
-    subst (λ l. All (λ r. r.object < length l) (g.W.Work.meaning.requests (arc_value c.args.work))) (sym opening) c.requires.objects
+pub request_in_turn-requires-clause-start : goal.request_in_turn-requires-clause-start
+request_in_turn-requires-clause-start g c = ap (λ (s : Started _ _). s.machine) (c.enter-turn.ensures.looks.same.from ∙ c.requires.desk)
 
-pub note-requires-clause-may : goal.note-requires-clause-may
-note-requires-clause-may g c = may_request _ c.enter-turn.result.seat c.enter-turn.result.next c.in-Ok.entry c.work-asked.result.now c.enter-turn.ensures.turn.placed
+pub request_in_turn-requires-clause-objects : goal.request_in_turn-requires-clause-objects
+request_in_turn-requires-clause-objects g c = subst (λ (s : Started _ _). All (λ r. r.object < length s.machine.opening) (g.W.Work.meaning.requests (arc_value c.args.work))) c.requires.desk c.requires.objects
 
-pub note-requires-clause-after : goal.note-requires-clause-after
-note-requires-clause-after g c =
-    let e = c.in-Ok.ensures in
-    let is = asked_is _ _ _ _ _ e.plan e.entry c.work-asked.ensures.work in
-    after_request _ _ _ _ c.in-Ok.entry c.enter-turn.result.seat _ c.work-asked.result.now c.enter-turn.ensures.after e.plan e.opening e.history e.entry is
-
-pub leave-requires-in-Ok-clause-turn : goal.leave-requires-in-Ok-clause-turn
-leave-requires-in-Ok-clause-turn g c =
-    in_turn_noting _ _ _ _ _ c.enter-turn.ensures.turn (may_request _ c.enter-turn.result.seat c.enter-turn.result.next c.in-Ok.entry c.work-asked.result.now c.enter-turn.ensures.turn.placed) c.note.ensures.known
-
-pub leave-requires-in-Ok-clause-after : goal.leave-requires-in-Ok-clause-after
-leave-requires-in-Ok-clause-after g c =
-    let e = c.in-Ok.ensures in
-    let is = asked_is _ _ _ _ _ e.plan e.entry c.work-asked.ensures.work in
-    subst (λ m. IsAfter m.0.start.machine c.request.new.self m.0.seen) (sym c.note.ensures.known) (after_request _ _ _ _ c.in-Ok.entry c.enter-turn.result.seat _ c.work-asked.result.now c.enter-turn.ensures.after e.plan e.opening e.history e.entry is)
+pub request_in_turn-requires-clause-fits : goal.request_in_turn-requires-clause-fits
+request_in_turn-requires-clause-fits g c = subst (λ (s : Started _ _). FitsShapes g.W.Work.meaning (map g.W.Work.meaning.shape s.machine.opening) (arc_value c.args.work)) c.requires.desk c.requires.fits
 
 pub returns-in-Ok-clause-ok : goal.returns-in-Ok-clause-ok
 returns-in-Ok-clause-ok g c =
-    let e = c.in-Ok.ensures in
-    let is = asked_is _ _ _ _ _ e.plan e.entry c.work-asked.ensures.work in
-    let adds = adds_at c.args.self.now.desk c.args.pass c.leave-in-Ok.result c.enter-turn.result.place.me.0 c.enter-turn.result.seat c.enter-turn.result.next (requested c.in-Ok.entry c.enter-turn.result.seat c.work-asked.result.now) _ _ c.enter-turn.ensures.turn.placed refl c.enter-turn.ensures.looks c.note.ensures.known c.leave-in-Ok.ensures.pass in
-    subst (λ s. Adds c.args.pass c.leave-in-Ok.result (requested c.in-Ok.entry s (arc_value c.args.work))) c.enter-turn.ensures.seat (subst (λ w. Adds c.args.pass c.leave-in-Ok.result (requested c.in-Ok.entry c.enter-turn.result.seat w)) is adds)
+    let t = c.enter-turn in
+    let adds = adds_at c.args.self.now.desk c.args.pass c.leave.result t.result.place.me.0 t.result.seat t.result.next (requested c.in-Ok.entry t.result.seat (arc_value c.args.work)) _ _ t.ensures.turn.placed refl t.ensures.looks c.in-Ok.ensures.noted c.leave.ensures.pass in
+    subst (λ s. Adds c.args.pass c.leave.result (requested c.in-Ok.entry s (arc_value c.args.work))) t.ensures.seat adds
 
 pub returns-in-Ok-clause-entry : goal.returns-in-Ok-clause-entry
 returns-in-Ok-clause-entry g c =
     let e = c.in-Ok.ensures in
-    let is = asked_is _ _ _ _ _ e.plan e.entry c.work-asked.ensures.work in
-    let after = subst (λ m. IsAfter m.0.start.machine c.request.new.self m.0.seen) (sym c.note.ensures.known) (after_request _ _ _ _ c.in-Ok.entry c.enter-turn.result.seat _ c.work-asked.result.now c.enter-turn.ensures.after e.plan e.opening e.history e.entry is) in
-    let plan = ap length (plan_told c.args.self.now.desk c.leave-in-Ok.result c.note.new.place.me.0 c.request.new.self c.leave-in-Ok.ensures.pass after ∙ e.plan) in
-    let entry = e.entry in
-    omega (arith, plan, entry, length-append c.enter-turn.result.machine.plan (arc_value c.args.work ∷ []))
+    let plan = ap length (plan_told c.args.self.now.desk c.leave.result c.request_in_turn.new.turn.place.me.0 c.request_in_turn.new.turn.machine c.leave.ensures.pass e.after) in
+    omega (arith, plan, e.plan, e.entry)
+
+pub returns-in-Err-clause-err : goal.returns-in-Err-clause-err
+returns-in-Err-clause-err g c = subst (Looks c.args.pass) (sym (c.leave-in-Err.ensures.pass ∙ ap (λ m. token_of c.args.self.now.desk m.0) c.in-Err.ensures.err)) c.enter-turn.ensures.looks
