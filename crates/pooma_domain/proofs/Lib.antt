@@ -1,3 +1,4 @@
+pub mod Beside
 pub mod BoxSets
 pub mod CellOrder
 pub mod PaddedBox

@@ -3,6 +3,7 @@ ghost use Rattle.std.specs.Int.{int_max, int_min};
 ghost use Rattle.std.specs.Option.{ForSome};
 ghost use Rattle.pooma_domain.specs.Axes.{interval_of};
 ghost use Rattle.pooma_domain.specs.Cells.{interval, axis_length, cells_of, IsAxis, IsBox, IsIn};
+ghost use Rattle.pooma_domain.specs.Neighbours.{axis_stride};
 ghost use Rattle.pooma_domain.specs.Operations.{common_axes, shifted, shifted_axis, reach, reaches, grown, grown_axis, HaveCommonCell, IsMeeting, IsShifted, IsGrown, IsPart};
 
 use crate::axes::Axis;
@@ -351,6 +352,19 @@ impl BoxN {
     {
         let rounds = self.y.offset(c.y) + self.y.len() * self.z.offset(c.z);
         self.x.offset(c.x) + self.x.len() * rounds
+    }
+
+    /// The stride of the axis with this number, counted from 0: how many places lie from each cell to its next one along it.
+    pub fn stride(&self, n: usize) -> u64
+        requires { n < length self.now }
+        ensures value { result ≡ axis_stride self.now n }
+        ensures few { result < 2 ^ 63 }
+    {
+        match n {
+            0 => 1,
+            1 => self.x.len(),
+            _ => self.x.len() * self.y.len(),
+        }
     }
 
     /// The common cells. None exactly where there are none.

@@ -12,5 +12,5 @@ pub use axes::Axis;
 pub use boxes::BoxN;
 pub use cells::Cell;
 pub use laws::{boxes_within_boxes, coordinates_of_cells, operations_on_boxes};
-pub use order::order_of_cells;
+pub use order::{neighbours_in_order, order_of_cells};
 pub use strides::Strided;
