@@ -1,6 +1,6 @@
 -- The requests of one object in the order in which they came, and which of them still hold a later one back.
-use Rattle.std.specs.Prelude.{◌≡◌, ◌<◌, ◌+◌, ◌-◌, ℕ, Bool, true, false, not, ◌&&◌, List, All, length, take, drop, slice_get, Option, Some, None, find, option_and_then, nat_lt, ◌==◌, if◌then◌else◌, AllPairs}
-use Rattle.std.specs.List.{prefix_len, position_or_len}
+use Rattle.std.specs.Prelude.{◌≡◌, ◌<◌, ◌+◌, ◌-◌, ℕ, Bool, true, false, not, ◌&&◌, List, All, length, take, drop, slice_get, Option, Some, None, find, option_and_then, nat_lt, ◌==◌, if◌then◌else◌, AllPairs, Contains, get_or}
+use Rattle.std.specs.List.{prefix_len, position_or_len, count_by}
 use Rattle.pooma_queue.specs.declared.queue.Mode.{Mode}
 use Rattle.pooma_queue.specs.declared.queue.Mode.TheVariants.{Read, Write}
 use Rattle.pooma_queue.specs.declared.queue.Asked.{Asked}
@@ -66,3 +66,25 @@ front_of requests = take (position_or_len (holds_back Read) (open_part requests)
 -- none of these but the last is an open request to write
 abbrev pub OnlyLastWrites : List Asked → Type 0
 OnlyLastWrites requests = All (λ asked. holds_back Read asked ≡ false) (take (length requests - 1) requests)
+
+-- nothing was released before its turn: what was has nothing open before it that it conflicts with
+abbrev pub IsInTurn : List Asked → Type 0
+IsInTurn requests = AllPairs (λ earlier later. later.released ≡ true → holds_back later.mode earlier ≡ false) requests
+
+-- the entry asks for the object in this mode
+abbrev pub AsksHere : ℕ → Mode → List Asked → Type 0
+AsksHere entry mode requests = (released : Bool) × Contains requests (record { entry = entry; mode = mode; released = released })
+
+-- how many requests of entries before this one hold back one of this mode
+abbrev pub held_back_by : List Asked → ℕ → Mode → ℕ
+held_back_by requests entry mode = count_by (λ earlier. nat_lt earlier.entry entry && holds_back mode earlier) requests
+
+-- whether a request in this mode is to write
+abbrev pub is_to_write : Mode → Bool
+is_to_write mode = conflicts mode Read
+
+-- for each request how many of those before it are to write, and how many of all
+pub record IsTally (modes : List Mode) (writes : List ℕ) (written : ℕ) : Type 0 where
+  pub long : length writes ≡ length modes
+  pub before : (k d : ℕ) → k < length writes → get_or writes k d ≡ count_by is_to_write (take k modes)
+  pub all : written ≡ count_by is_to_write modes

@@ -1,7 +1,7 @@
 ghost use Rattle.std.specs.List.{prefix_len};
-ghost use Rattle.pooma_queue.specs.Requests.{first_holding, IsInOrder};
+ghost use Rattle.pooma_queue.specs.Requests.{first_holding, holds_back, IsInOrder};
 ghost use Rattle.pooma_queue.specs.declared.queue.Asked.{Asked};
-ghost use Rattle.std.specs.Prelude.{◌≡◌, ◌↔◌, ◌+◌, ◌-◌, ◌<◌, ◌≤◌, ℕ, [], ◌∷◌, ◌++◌, false, min, nat_lt, length, map, take, drop, All, Contains, IsTrue, IsOk, IfOk, OnOk, OnErr, IfSome, IsNone, slice_get, slice_set, option_map};
+ghost use Rattle.std.specs.Prelude.{◌≡◌, ◌↔◌, ◌+◌, ◌-◌, ◌^◌, ◌<◌, ◌≤◌, ℕ, [], ◌∷◌, ◌++◌, false, cond, min, nat_lt, length, map, take, drop, All, Contains, IsTrue, IsOk, IfOk, OnOk, OnErr, IfSome, IsNone, slice_get, slice_set, option_map};
 
 use std::alloc::{AllocError, Global};
 use std::marker::Model;
@@ -54,7 +54,7 @@ impl Asked {
 /// Contracts see them as a list, beside the number of further requests for which there is room.
 ///
 /// Each question takes the same time however many requests there are, and a push what its memory takes. A release by entry
-/// begins with a binary search; beyond that all releases of a queue together pass each request twice at the most.
+/// and a count begin with a binary search; beyond that all releases of a queue together pass each request twice at the most.
 #[derive(Drop)]
 pub struct Queue {
     requests: Vec<Asked>,
@@ -62,22 +62,30 @@ pub struct Queue {
     // back, and what a read. Where there is none it is the number of requests. Neither ever goes back.
     first: usize,
     write: usize,
+    // For each request the number of those to write before it, and how many of all are to write. No release changes them.
+    writes: Vec<usize>,
+    written: usize,
+    // How many requests were released.
+    released: usize,
 }
 
 impl Model for Queue {
-    ghost use Rattle.std.specs.Prelude.{◌≡◌, ◌-◌, vec_len, vec_capacity};
+    ghost use Rattle.std.specs.Prelude.{◌≡◌, ◌-◌, min, map, vec_len, vec_capacity};
+    ghost use Rattle.std.specs.List.{count_by};
     ghost use Rattle.pooma_queue.specs.declared.queue.Mode.TheVariants.{Read, Write};
-    ghost use Rattle.pooma_queue.specs.Requests.{Waiting, IsInOrder, first_holding};
+    ghost use Rattle.pooma_queue.specs.Requests.{Waiting, IsInOrder, IsTally, first_holding};
 
     ghost Value = { Waiting };
 
-    ghost view = { λ q. record { requests = q.requests.items; room = vec_capacity q.requests - vec_len q.requests } };
+    ghost view = { λ q. record { requests = q.requests.items; room = min (vec_capacity q.requests - vec_len q.requests) (vec_capacity q.writes - vec_len q.writes) } };
 
-    ghost invariant = { λ q. IsInOrder q.requests.items × (q.first ≡ first_holding Write q.requests.items) × (q.write ≡ first_holding Read q.requests.items) };
+    ghost invariant = { λ q. IsInOrder q.requests.items × (q.first ≡ first_holding Write q.requests.items) × (q.write ≡ first_holding Read q.requests.items) × IsTally (map (λ asked. asked.mode) q.requests.items) q.writes.items q.written × (q.released ≡ count_by (λ asked. asked.released) q.requests.items) };
 }
 
 impl Queue {
-    ghost use Rattle.pooma_queue.specs.Requests.{IsGranted, MayGoOn, OnlyLastWrites, blocker_of, front_of, holder_of, let_go, released};
+    ghost use Rattle.std.specs.List.{count_by};
+    ghost use Rattle.pooma_queue.specs.declared.queue.Mode.TheVariants as mode;
+    ghost use Rattle.pooma_queue.specs.Requests.{AsksHere, IsGranted, IsInTurn, MayGoOn, OnlyLastWrites, blocker_of, front_of, held_back_by, holder_of, let_go, released};
 
     /// A queue with no requests and no room. It takes no memory.
     pub fn new(alloc: Global) -> Queue
@@ -88,6 +96,9 @@ impl Queue {
             requests: Vec::new(alloc),
             first: 0,
             write: 0,
+            writes: Vec::new(alloc),
+            written: 0,
+            released: 0,
         }
     }
 
@@ -99,7 +110,8 @@ impl Queue {
         ensures room { self.old.room ≤ self.new.room }
         ensures succeeds { 0 < n → n ≤ self.old.room → IsOk result }
     {
-        self.requests.reserve(n)
+        self.requests.reserve(n)?;
+        self.writes.reserve(n)
     }
 
     /// How many requests there are.
@@ -127,11 +139,14 @@ impl Queue {
         ensures err { OnErr result (self.new.requests ≡ self.old.requests) }
     {
         let place = self.requests.len();
+        self.writes.reserve(1)?;
         self.requests.push(Asked {
             entry,
             mode,
             released: false,
         })?;
+        self.writes.push_reserved(self.written);
+        self.written = one_more_if(self.written, mode.conflicts(Mode::Read));
         // With no open request to write, `write` was the number of requests, and is so again behind one to read.
         if self.write == place && !mode.conflicts(Mode::Read) {
             self.write += 1;
@@ -184,6 +199,44 @@ impl Queue {
         }
     }
 
+    /// How many requests of earlier entries hold back the one of this entry, where nothing was released before its turn. It
+    /// begins with a binary search, and walks over no requests.
+    pub fn earlier(&self, entry: u32, mode: Mode) -> usize
+        requires in_turn { IsInTurn self.now.requests }
+        requires asks { AsksHere entry mode self.now.requests }
+        ensures count { result ≡ held_back_by self.now.requests entry mode }
+        ensures few { result ≤ entry }
+    {
+        let place = count_before(&self.requests, entry);
+        match mode {
+            Mode::Read => self.open_writes_before(place),
+            Mode::Write => self.open_before_write(place),
+        }
+    }
+
+    // How many open requests to write stand before this place. Of those to write, the released ones stand in front.
+    fn open_writes_before(&self, k: usize) -> usize
+        requires in_turn { IsInTurn self.now.requests }
+        requires there { k < length self.now.requests }
+        ensures { result ≡ count_by (holds_back mode.Read) (take k self.now.requests) }
+    {
+        if k <= self.write {
+            0
+        } else {
+            self.writes[k] - self.writes[self.write]
+        }
+    }
+
+    // How many open requests stand before this place, at which one to write stands. While that is open, all released ones do.
+    fn open_before_write(&self, k: usize) -> usize
+        requires in_turn { IsInTurn self.now.requests }
+        requires there { k < length self.now.requests }
+        requires write { IfSome (slice_get self.now.requests k) (λ asked. asked.mode ≡ mode.Write) }
+        ensures { result ≡ count_by (holds_back mode.Write) (take k self.now.requests) }
+    {
+        if k < self.write { 0 } else { k - self.released }
+    }
+
     /// The requests from the first open one, which was not released, up to the first open one that is to write. Each open
     /// request that may go on is among them, since that one holds back what comes behind it; only the last may be an open one
     /// to write. Where they begin and end is known, so this walks over none.
@@ -202,6 +255,7 @@ impl Queue {
     {
         let place = count_before(&self.requests, entry);
         if place < self.requests.len() && self.requests[place].entry == entry {
+            self.released = one_more_if(self.released, !self.requests[place].released);
             self.requests[place].released = true;
             self.first = first_holding_from(&self.requests, self.first, Mode::Write);
             self.write = first_holding_from(&self.requests, self.write, Mode::Read);
@@ -216,10 +270,19 @@ impl Queue {
         ensures requests { IfSome (slice_get self.old.requests k) (λ asked. self.new.requests ≡ slice_set self.old.requests k (released asked)) }
         ensures room { self.new.room ≡ self.old.room }
     {
+        self.released += 1;
         self.requests[k].released = true;
         self.first = first_holding_from(&self.requests, self.first, Mode::Write);
         self.write = first_holding_from(&self.requests, self.write, Mode::Read);
     }
+}
+
+// One more than the number, where this holds.
+fn one_more_if(n: usize, holds: bool) -> usize
+    requires { n + 1 < 2 ^ 64 }
+    ensures { result ≡ n + cond holds 1 0 }
+{
+    if holds { n + 1 } else { n }
 }
 
 // The requests from one place up to another, with that one if it is there.
