@@ -38,6 +38,15 @@ for workers in 2 8; do
 done
 out=$(printf '%s' "$first" | ./pooma run 64); check 'the most workers' 0 '7 7 7 7' $? "$out"
 out=$(printf '%s' "$first" | ./pooma run 65); check 'one worker too many' 1 '' $? "$out"
+out=$(./pooma run 1 </); check 'a directory as standard input' 4 '' $? "$out"
+long=$'brick A (0:199999)\nA = index(0)\nprint A\n'
+for workers in 1 4; do
+    printf '%s' "$long" | ./pooma run $workers | head -c 1000 >/dev/null
+    check "a reader that leaves early, on $workers" 5 '' "${PIPESTATUS[1]}" ''
+done
+out=$(tests/hostile/ends terminal); check 'a terminal' 0 'ends: 1 passed, 0 failed' $? "$out"
+out=$(ulimit -v 65536 && exec taskset -c "$(taskset -cp $$ | grep -o '[0-9]*$')" crates/pooma/out/pooma run 64 <examples/heat.pooma)
+check '64 workers on one processor with 64 MB' 0 "$(cat examples/heat.out)" $? "$out"
 out=$(./pooma make 1 0); check 'a made script of no lines' 1 '' $? "$out"
 
 # The longest made script: its length, as another program made it, and its time, as the best of five.
