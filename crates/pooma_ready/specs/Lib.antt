@@ -1,0 +1,4 @@
+pub mod Dealing
+pub mod Ends
+pub mod Rule
+pub mod Inside
