@@ -2,4 +2,5 @@ mod Bits
 mod Chosen
 mod Marks
 mod Places
+mod RowTotals
 mod Signs

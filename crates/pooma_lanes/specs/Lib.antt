@@ -1,3 +1,4 @@
 pub mod Blocks
 pub mod Orders
 pub mod Rows
+pub mod Totals

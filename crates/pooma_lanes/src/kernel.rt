@@ -79,3 +79,13 @@ pub(crate) fn by_lanes<K: CheckedLanes>(a: Row, b: Row, out: &mut [i64]) -> Resu
     let at = blocks::<K>(a, b, out);
     rest::<K>(a, b, out, at)
 }
+
+/// Does the whole row place by place.
+#[inline(always)]
+pub(crate) fn one_by_one<K: Checked>(a: Row, b: Row, out: &mut [i64]) -> Result<(), Place>
+    requires left { IsOfLength a (length out.old) }
+    requires right { IsOfLength b (length out.old) }
+    ensures { IsDone (λ k r. K.answers (number_at a.entry k) (number_at b.entry k) r) result out.old out.new }
+{
+    rest::<K>(a, b, out, 0)
+}

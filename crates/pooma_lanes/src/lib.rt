@@ -4,11 +4,17 @@
 #![tactic(auto)]
 
 mod block;
+mod choice;
 mod kernel;
 mod orders;
+mod plain;
 mod row;
 mod sums;
+mod totals;
 
+pub use choice::select_rows;
 pub use orders::{Compare, compare_rows, max_rows, min_rows};
+pub use plain::{abs_rows, and_rows, div_rows, mul_rows, neg_rows, or_rows, rem_rows};
 pub use row::{Place, Row};
 pub use sums::{add_rows, sub_rows};
+pub use totals::sum_row;

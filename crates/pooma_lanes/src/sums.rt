@@ -9,7 +9,7 @@ use crate::row::{Place, Row};
 use pooma_num::FaultKind;
 use std::simd::prelude::*;
 
-struct Sum;
+pub(crate) struct Sum;
 
 impl Checked for Sum {
     ghost answers = { λ a b r. IsExact r (a +ℤ b) };
