@@ -3,7 +3,7 @@ ghost use Rattle.std.specs.Prelude.{◌≡◌, ◌<◌, ◌≤◌, ◌+◌, ◌^
 
 use crate::desk::Adding;
 use pooma_machine::{Machine, Mode, Request};
-use pooma_run::share_out;
+use pooma_window::share_out;
 use pooma_worker::Gate;
 use std::alloc::Global;
 use std::sync::atomic::{AtomicU64, Ordering};

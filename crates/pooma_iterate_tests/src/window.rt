@@ -1,9 +1,9 @@
 ghost use Rattle.std.specs.Prelude.{◌≡◌, ◌<◌, ◌+◌, ◌^◌, ◌++◌, ◌∷◌, [], List, OnOk, length};
 ghost use Rattle.pooma_machine.specs.Told.{Window};
-ghost use Rattle.pooma_run.specs.Questions.{Question};
+ghost use Rattle.pooma_window.specs.Questions.{Question};
 
 use pooma_machine::{EventKind, ListJournal, Mode, Request, Work};
-use pooma_run::{Completer, ListPicker, OneThread};
+use pooma_window::{Completer, ListPicker, OneThread};
 use std::alloc::{AllocError, Global};
 use std::slice;
 use std::sync::Arc;

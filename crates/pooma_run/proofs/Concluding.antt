@@ -38,7 +38,7 @@ use Rattle.pooma_run.specs.Outcomes.{AreValues, joined, value_of}
 use Rattle.pooma_run.specs.Plan.{ends_window, fault_of_run, fault_or_later, first_to_fault}
 use Rattle.pooma_run.specs.Showing.{CanShow, OwnersHave}
 use Rattle.pooma_run.specs.Underway.{AddedBy, ArePending, EndsBy, GoesOn, IsAdded, IsConcluding, IsDone, IsHere, IsOf, IsUnderway, Kept, StandsBy, behind, completed, left}
-use Rattle.pooma_run.specs.Windows.{AsksWithin}
+use Rattle.pooma_window.specs.Windows.{AsksWithin}
 use Rattle.pooma_run.proofs.Standing.{has_total, owner_shows}
 
 -- the rest of the statements behind one that leaves a world

@@ -27,7 +27,7 @@ use Rattle.pooma_piece.specs.Meaning.{pieces}
 use Rattle.pooma_piece.specs.Pieces.{Pieced, requests_of}
 use Rattle.pooma_store.specs.Numbering.{AreObjects, areas_of, object_count, patch_count}
 use Rattle.pooma_store.specs.Stored.{contents_of}
-use Rattle.pooma_run.specs.Windows.{AsksWithin}
+use Rattle.pooma_window.specs.Windows.{AsksWithin}
 
 abbrev area_of_object : Numbered → List Interval
 area_of_object object = object.area

@@ -1,11 +1,5 @@
-pub mod Statuses
 pub mod Lists
-pub mod Ascending
-pub mod Uniting
-pub mod Choosing
-pub mod Runs
-pub mod Growth
-pub mod Turns
+pub mod Results
 mod Joined
 mod Worked
 pub mod Earliest
@@ -27,7 +21,6 @@ pub mod Performing
 pub mod Performed
 pub mod Reduced
 pub mod Beginning
-pub mod Seated
 pub mod Shared
 pub mod Doing
 pub mod Histories

@@ -4,9 +4,10 @@ use Rattle.pooma_machine.specs.Told.{Window}
 use Rattle.pooma_model.specs.Order.{Programmed}
 use Rattle.pooma_piece.specs.Meaning.{pieces}
 use Rattle.pooma_piece.specs.Pieces.{Pieced}
+use Rattle.pooma_window.specs.Workers.{IsShared}
 use Rattle.pooma_run.specs.Told.{HasTold, HasToldFirst, ToldAs}
 use Rattle.pooma_run.specs.Turns.{AreTold}
-use Rattle.pooma_run.specs.Workers.{HasShared, HasSharedFirst, IsShared, SharedBy}
+use Rattle.pooma_run.specs.Workers.{HasShared, HasSharedFirst, SharedBy}
 
 module _ {S : Type 0} (workers_of : S → ℕ) (tells : List Pieced → Window → S → S → Type 0)
     (also : (works : List Pieced) (window : Window) (old new : S) → tells works window old new → IsShared pieces (workers_of old) works window × (workers_of new ≡ workers_of old))

@@ -28,7 +28,7 @@ use Rattle.pooma_store.specs.Stored.{AreArrays}
 use Rattle.pooma_run.specs.Gathered.{HasLaws}
 use Rattle.pooma_run.specs.Plan.{fault_or_later, first_to_fault, stale_after, works_of}
 use Rattle.pooma_run.specs.Underway.{AddedBy, ArePending, EndsBy, GoesOn, IsAdded, IsHere, IsOf, IsUnderway, Kept, StandsBy, begins, behind, left, with_works}
-use Rattle.pooma_run.specs.Windows.{AsksWithin}
+use Rattle.pooma_window.specs.Windows.{AsksWithin}
 use Rattle.pooma_run.proofs.Adding.{ComesOut, IsFaultOf, comes_out, fills_answer}
 use Rattle.pooma_run.proofs.Behind.{answers_behind, objects_behind, pending_first, pieces_first}
 use Rattle.pooma_run.proofs.Standing.{has_arrays, store_of}

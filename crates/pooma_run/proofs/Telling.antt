@@ -11,11 +11,11 @@ use Rattle.pooma_model.specs.Order.{Programmed}
 use Rattle.pooma_piece.specs.Meaning.{pieces}
 use Rattle.pooma_piece.specs.Pieces.{Pieced}
 use Rattle.pooma_run.specs.Plan.{IsOpening, fault_of_run, steps_of}
-use Rattle.pooma_run.specs.Questions.{Question}
+use Rattle.pooma_window.specs.Questions.{Question}
 use Rattle.pooma_run.specs.Steps.{Step, has_statement, is_end, window_with, windows_of, windows_run, windows_up_to}
 use Rattle.pooma_run.specs.Told.{AreBeforeFault, HasAsked, HasTold, HasToldFirst, TellsTo, ToldAs, entries_of}
 use Rattle.pooma_run.specs.Turns.{AreTold, told_behind}
-use Rattle.pooma_run.specs.Windows.{IsPickedFrom}
+use Rattle.pooma_window.specs.Windows.{IsPickedFrom}
 
 -- behind a step at which no window ends its entries are pending too
 pub none_ends : (pending added : List Entry) (step : Step) (steps : List Step) → added ≡ pending ++ step.entries → is_end step added ≡ false

@@ -5,9 +5,9 @@ use Rattle.std.proofs.lemmas.Bool.{eqb-false}
 use Rattle.std.proofs.lemmas.List.{length-map}
 use Rattle.pooma_machine.specs.Told.{Window}
 use Rattle.pooma_run.specs.Turns.{NoneTold, WindowTold}
-use Rattle.pooma_run.specs.Windows.{TellsOne}
+use Rattle.pooma_window.specs.Windows.{TellsOne}
 use Rattle.pooma_run.proofs.Telling.{some_told}
-use Rattle.pooma_run.proofs.Turns.{on_err}
+use Rattle.pooma_run.proofs.Results.{on_err}
 
 pub some_pending : {A B : Type 0} (f : A → B) (xs : List A) (n : ℕ) (empty : Bool) → n ≡ length xs → empty ≡ (n == 0) → empty ≡ false → 0 < length (map f xs)
 some_pending f xs n empty is tests not =

@@ -43,7 +43,7 @@ use Rattle.pooma_split.specs.Words.{literals_fit_in}
 use Rattle.pooma_fill.specs.Freshened.{AreMarked, CanFill, filled}
 use Rattle.pooma_fill.specs.Marks.{HasArrays, Staled, declared_of, fills_before, first_mark, is_target, marks_after}
 use Rattle.pooma_fill.specs.Reading.{views_read}
-use Rattle.pooma_run.specs.Windows.{AsksWithin}
+use Rattle.pooma_window.specs.Windows.{AsksWithin}
 
 -- works done one after another
 pub record OfWorks : Type 0 where

@@ -1,6 +1,3 @@
-pub mod Questions
-pub mod Windows
-pub mod Running
 pub mod Steps
 pub mod Plan
 pub mod Turns

@@ -8,11 +8,11 @@ use Rattle.pooma_model.specs.Order.{Programmed}
 use Rattle.pooma_piece.specs.Meaning.{pieces}
 use Rattle.pooma_piece.specs.Pieces.{Pieced}
 use Rattle.pooma_run.specs.Plan.{IsOpening, IsPlan, fault_of_run, steps_of}
-use Rattle.pooma_run.specs.Questions.{Question}
+use Rattle.pooma_window.specs.Questions.{Question}
 use Rattle.pooma_run.specs.Steps.{window_with, windows_of}
 use Rattle.pooma_run.specs.Turns.{AreTold, told_behind}
 use Rattle.pooma_run.specs.Underway.{Kept}
-use Rattle.pooma_run.specs.Windows.{IsPickedFrom}
+use Rattle.pooma_window.specs.Windows.{IsPickedFrom}
 
 abbrev pub entries_of : List Pieced → List Entry
 entries_of works = map (entry_of pieces) works

@@ -34,7 +34,7 @@ use Rattle.pooma_store.specs.Standing.{IsFresh, IsFreshFor, StandsFor}
 use Rattle.pooma_store.specs.Stored.{AreArrays, Stored}
 use Rattle.pooma_run.specs.Outcomes.{AreValues, joined}
 use Rattle.pooma_run.specs.Plan.{fault_of_run, first_to_fault, stale_after, works_of}
-use Rattle.pooma_run.specs.Windows.{AsksWithin}
+use Rattle.pooma_window.specs.Windows.{AsksWithin}
 
 -- the run behind these bytes
 abbrev pub behind : List ℕ → Run → Run

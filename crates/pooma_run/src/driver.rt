@@ -14,7 +14,6 @@ ghost use Rattle.pooma_run.specs.Steps.{window_with};
 ghost use Rattle.pooma_run.specs.Told.{HasTold, HasToldFirst, IsCutShort, TellsUpTo, ToldAs};
 ghost use Rattle.pooma_run.specs.Underway.{ArePending, IsConcluding, IsOf, IsUnderway, WritesFault, completed, left};
 
-use crate::completer::Completer;
 use crate::ended::Ended;
 use crate::faults::{first_fault, line_of, statements_of};
 use crate::gather::gathered;
@@ -28,6 +27,7 @@ use pooma_num::FaultKind;
 use pooma_piece::{Outcome, Piece};
 use pooma_print::{FaultPlace, fault_text, scalar_text};
 use pooma_store::Store;
+use pooma_window::Completer;
 use std::alloc::{AllocError, Global};
 use std::marker::Model;
 use std::sync::Arc;

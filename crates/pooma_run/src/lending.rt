@@ -6,12 +6,12 @@ ghost use Rattle.pooma_piece.specs.Meaning.{pieces};
 ghost use Rattle.pooma_split.specs.Statements.{done_in_order};
 ghost use Rattle.pooma_store.specs.Numbering.{areas_of, object_count};
 ghost use Rattle.pooma_run.specs.Turns.{NoneTold, WindowTold};
-ghost use Rattle.pooma_run.specs.Windows.{AsksWithin};
+ghost use Rattle.pooma_window.specs.Windows.{AsksWithin};
 
-use crate::completer::Completer;
 use pooma_field::numbers_of_cells;
 use pooma_piece::{Outcome, Piece};
 use pooma_store::Store;
+use pooma_window::Completer;
 use std::alloc::{AllocError, Global};
 use std::mem;
 use std::sync::Arc;

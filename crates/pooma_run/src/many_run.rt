@@ -2,15 +2,15 @@
 ghost use Rattle.std.specs.Prelude.{◌≡◌, ◌<◌, ◌≤◌, All, IfOk, OnErr, OnOk};
 ghost use Rattle.pooma_model.specs.Serial.{serial_of};
 ghost use Rattle.pooma_piece.specs.Meaning.{pieces};
-ghost use Rattle.pooma_run.specs.Workers.{HasShared, HasSharedFirst, IsDone};
+ghost use Rattle.pooma_window.specs.Workers.{IsDone};
+ghost use Rattle.pooma_run.specs.Workers.{HasShared, HasSharedFirst};
 
 use crate::driver::run;
 use crate::ended::Ended;
-use crate::many_threads::ManyThreads;
-use crate::sharing::share_out;
 use pooma_machine::{Journal, Machine};
 use pooma_model::Program;
 use pooma_piece::Piece;
+use pooma_window::{ManyThreads, share_out};
 use pooma_worker::Gate;
 use std::alloc::{AllocError, Global};
 use std::sync::Wait;

@@ -3,15 +3,14 @@ ghost use Rattle.std.specs.Prelude.{◌≡◌, IfOk, OnErr, OnOk};
 ghost use Rattle.pooma_model.specs.Serial.{serial_of};
 ghost use Rattle.pooma_piece.specs.Meaning.{pieces};
 ghost use Rattle.pooma_run.specs.Told.{HasAsked, HasTold, HasToldFirst};
-ghost use Rattle.pooma_run.specs.Windows.{IsPickedFrom, IsStopped};
+ghost use Rattle.pooma_window.specs.Windows.{IsPickedFrom, IsStopped};
 
 use crate::driver::run;
 use crate::ended::Ended;
-use crate::one_thread::OneThread;
-use crate::picker::Picker;
 use pooma_machine::Journal;
 use pooma_model::Program;
 use pooma_piece::Piece;
+use pooma_window::{OneThread, Picker};
 use std::alloc::{AllocError, Global};
 
 /// Runs a program on one thread. In each window the picker says which entry is run next, and the journal is told the window

@@ -10,7 +10,7 @@ use Rattle.pooma_run.proofs.Beginning.{holds_of_next, last_serial, last_told, le
 use Rattle.pooma_run.proofs.Performed.{below_all, fewer_pending}
 use Rattle.pooma_run.proofs.Performing.{tells_last, told_first_short}
 use Rattle.pooma_run.proofs.Telling.{tells_at_first, tells_as, told_first}
-use Rattle.pooma_run.proofs.Turns.{on_err}
+use Rattle.pooma_run.proofs.Results.{on_err}
 use Rattle.pooma_run.proofs.driver.run.Given.{Over}
 use Rattle.pooma_run.proofs.driver.run.Goals as goal
 use Rattle.pooma_run.proofs.driver.run.Goals.{In-Some, In_default}

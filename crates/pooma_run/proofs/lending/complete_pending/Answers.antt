@@ -4,7 +4,7 @@ use Rattle.std.specs.Arc.{arc_value}
 use Rattle.pooma_piece.specs.Meaning.{pieces}
 use Rattle.pooma_store.specs.Numbering.{AreObjects, areas_of, object_count}
 use Rattle.pooma_store.specs.Stored.{contents_of}
-use Rattle.pooma_run.specs.Windows.{AsksWithin}
+use Rattle.pooma_window.specs.Windows.{AsksWithin}
 use Rattle.pooma_run.proofs.Forms.{asks_of_objects, ser_keeps}
 use Rattle.pooma_run.proofs.Telling.{some_told}
 use Rattle.pooma_run.proofs.Untold.{err_handed, some_pending, untold_or_theirs}

@@ -15,10 +15,10 @@ use Rattle.pooma_run.specs.Outcomes.{fault_seen, seen}
 use Rattle.pooma_run.specs.Steps.{window_with}
 use Rattle.pooma_run.specs.Told.{IsCutShort, ToldAs}
 use Rattle.pooma_run.specs.Underway.{IsOf, Kept, left}
-use Rattle.pooma_run.specs.Windows.{AsksWithin}
+use Rattle.pooma_window.specs.Windows.{AsksWithin}
 use Rattle.pooma_run.proofs.Faulting.{fault_holds}
 use Rattle.pooma_run.proofs.Performing.{completed_is, found_among, writes_it}
-use Rattle.pooma_run.proofs.Turns.{on_err}
+use Rattle.pooma_run.proofs.Results.{on_err}
 use Rattle.pooma_run.proofs.driver.Running.end_window.Given.{Over}
 use Rattle.pooma_run.proofs.driver.Running.end_window.Goals as goal
 use Rattle.pooma_run.proofs.driver.Running.end_window.Goals.{After-first_fault}

@@ -11,7 +11,7 @@ use Rattle.pooma_run.specs.Underway.{IsConcluding, IsOf, Kept, begins, left, wit
 use Rattle.pooma_run.proofs.Performed.{Performs, added_now, all_pending, begins_within, concluding_now, ended_now, first_now, short_now, tells_after, tells_now, told_by_fault, told_by_sum, underway_now, where_false, where_true}
 use Rattle.pooma_run.proofs.Performing.{with_works_is}
 use Rattle.pooma_run.proofs.Telling.{told_first}
-use Rattle.pooma_run.proofs.Turns.{on_err}
+use Rattle.pooma_run.proofs.Results.{on_err}
 use Rattle.pooma_run.proofs.driver.Running.perform.Given.{Over}
 use Rattle.pooma_run.proofs.driver.Running.perform.Goals as goal
 use Rattle.pooma_run.proofs.driver.Running.perform.Goals.{After-after, After-deref-in-Some, After-end_window, else-not-ends_window-via-then-not-ends_window+else-len-lt-ENOUGH, else-not-ends_window-via-else-not-ends_window}

@@ -1,6 +1,0 @@
-use Rattle.std.proofs.Common.{◌≡◌, take}
-use Rattle.pooma_law.specs.Ser.{ser}
-use Rattle.pooma_run.proofs.window.outcomes_of.Given as goal
-
-abbrev pub invariant-loop-j : goal.invariant-loop-j
-invariant-loop-j g l = l.outcomes.items ≡ take l.j (ser g.W.Work.meaning l.machine.plan l.machine.opening).outcomes

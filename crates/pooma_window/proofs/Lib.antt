@@ -1,0 +1,9 @@
+pub mod Statuses
+pub mod Lists
+pub mod Ascending
+pub mod Uniting
+pub mod Choosing
+pub mod Runs
+pub mod Growth
+pub mod Turns
+pub mod Seated

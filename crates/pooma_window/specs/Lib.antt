@@ -1,0 +1,4 @@
+pub mod Questions
+pub mod Windows
+pub mod Running
+pub mod Workers
