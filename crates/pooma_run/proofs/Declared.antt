@@ -1,16 +1,20 @@
 -- The arrays of a program, declared one after another.
-use Rattle.std.proofs.Common.{◌≡◌, ◌∙◌, sym, ap, ℕ, zero, suc, ◌+◌, ◌≤◌, Some, List, [], ◌∷◌, ◌++◌, length, take, append-nil, arith}
+use Rattle.std.proofs.Common.{◌≡◌, ◌∙◌, sym, ap, subst, inl, inr, ℕ, zero, suc, ◌+◌, ◌<◌, ◌≤◌, Some, List, [], ◌∷◌, ◌++◌, length, take, append-nil, arith}
 use Rattle.std.specs.Prelude.{slice_get}
 use Rattle.std.specs.List.{AllZip}
+use Rattle.std.proofs.lemmas.Bool.{cases_lt}
 use Rattle.std.proofs.lemmas.Grind.{flat_map-append}
 use Rattle.std.proofs.lemmas.Slice.Zip.{AllZip-long}
 use Rattle.std.proofs.lemmas.List.{take_all}
+use Rattle.std.proofs.lemmas.Option.{get_or_from_slice_get, slice_get-get_or}
 use Rattle.pooma_field.specs.Numbered.{Numbered}
-use Rattle.pooma_field.specs.Shapes.{Shaped}
+use Rattle.pooma_field.specs.Shapes.{IsShape, Shaped}
 use Rattle.pooma_layout.specs.Axes.{CutAxis}
+use Rattle.pooma_layout.specs.Patches.{IsLayout}
 use Rattle.pooma_model.specs.Declarations.{IsArray}
-use Rattle.pooma_store.specs.Numbering.{new_objects, new_patches}
-use Rattle.pooma_store.specs.Stored.{Fits}
+use Rattle.pooma_store.specs.Numbering.{layout_at, new_objects, new_patches}
+use Rattle.pooma_store.specs.Standing.{shape_at}
+use Rattle.pooma_store.specs.Stored.{AreArrays, Fits}
 use Rattle.pooma_run.proofs.Lists.{take_next}
 
 zip_at : {A B : Type 0} (R : A → B → Type 0) (xs : List A) (ys : List B) (k : ℕ) (x : A) (y : B) → AllZip R xs ys → slice_get xs k ≡ Some x → slice_get ys k ≡ Some y → R x y
@@ -40,3 +44,32 @@ objects_next layouts old new k layout is at more =
 -- all of them
 pub all_layouts : (shapes : List Shaped) (layouts : List (List CutAxis)) (k : ℕ) → AllZip IsArray shapes layouts → length shapes ≤ k → take k layouts ≡ layouts
 all_layouts shapes layouts k each all = take_all k layouts (omega (arith, AllZip-long IsArray shapes layouts each))
+
+-- the array at this place has a shape, and is cut into patches
+pub record IsCutAt (shapes : List Shaped) (layouts : List (List CutAxis)) (k : ℕ) : Type 0 where
+  pub shaped : IsShape (shape_at shapes k)
+  pub cut : IsLayout (layout_at layouts k)
+
+pub next_cut : (shapes : List Shaped) (layouts : List (List CutAxis)) (n : ℕ) (shape : Shaped) (layout : List CutAxis)
+    → slice_get shapes n ≡ Some shape → slice_get layouts n ≡ Some layout → IsShape shape → IsLayout layout
+    → ((k : ℕ) → k < n → IsCutAt shapes layouts k) → (k : ℕ) → k < n + 1 → IsCutAt shapes layouts k
+next_cut shapes layouts n shape layout at there shaped cut before k below =
+    elim (cases_lt k n) [
+      | inl less ↦ before k less
+      | inr after ↦ let last : k ≡ n = omega arith in record {
+        shaped = subst (λ j. IsShape (shape_at shapes j)) (sym last) (subst IsShape (sym (get_or_from_slice_get shapes n shape _ at)) shaped);
+        cut = subst (λ j. IsLayout (layout_at layouts j)) (sym last) (subst IsLayout (sym (get_or_from_slice_get layouts n layout _ there)) cut);
+      }
+    ]
+
+pub all_cut : (shapes : List Shaped) (layouts : List (List CutAxis)) (n : ℕ) → AllZip IsArray shapes layouts → length shapes ≤ 256 → length shapes ≤ n
+    → ((k : ℕ) → k < n → IsCutAt shapes layouts k) → AreArrays shapes layouts
+all_cut shapes layouts n each few all cut =
+    let both : length layouts ≡ length shapes = AllZip-long IsArray shapes layouts each in
+    record {
+      both = sym both;
+      few = omega arith;
+      fitting = λ k below. fits_at shapes layouts k (shape_at shapes k) (layout_at layouts k) each (slice_get-get_or shapes k _ (omega arith)) (slice_get-get_or layouts k _ below);
+      shaped = λ k below. (cut k (omega arith)).shaped;
+      cut = λ k below. (cut k (omega arith)).cut;
+    }

@@ -25,3 +25,4 @@ pub mod Shared
 pub mod Doing
 pub mod Histories
 pub mod Served
+pub mod ToldEntries

@@ -8,8 +8,11 @@ pub use one_run::run_one;
 pub use pooma_window::{
     Completed, Completer, First, ListPicker, ManyThreads, OneThread, Picker, share_out,
 };
+pub use sound::program_is_sound;
 pub use works::open_store;
-pub use works_laws::{least_fault_of_histories, statements_in_works, windows_serve_positions};
+pub use works_laws::{
+    least_fault_of_histories, statements_in_works, told_windows_are_first, windows_serve_positions,
+};
 
 mod driver;
 mod ended;
@@ -21,5 +24,6 @@ mod lending;
 mod many_run;
 mod one_run;
 mod shown;
+mod sound;
 mod works;
 mod works_laws;

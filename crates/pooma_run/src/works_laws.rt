@@ -1,4 +1,4 @@
-ghost use Rattle.std.specs.Prelude.{◌≡◌, ◌<◌, ◌≤◌, ℕ, ℤ, None, Some, List, length, slice_get, All, AllPairs, Contains};
+ghost use Rattle.std.specs.Prelude.{◌≡◌, ◌<◌, ◌≤◌, ℕ, ℤ, None, Some, List, Option, length, slice_get, All, AllPairs, Contains};
 ghost use Rattle.pooma_domain.specs.Cells.{Interval, IsIn};
 ghost use Rattle.pooma_expr.specs.declared.reduction.Reduction.{Reduction};
 ghost use Rattle.pooma_expr.specs.declared.tree.Expr.{Expr};
@@ -9,6 +9,7 @@ ghost use Rattle.pooma_law.specs.Histories.{ForEachHistory, IsHistoryOf};
 ghost use Rattle.pooma_machine.specs.declared.journal.Entry.{Entry};
 ghost use Rattle.pooma_machine.specs.declared.step.Event.{Event};
 ghost use Rattle.pooma_machine.specs.Steps.{IsRequestList};
+ghost use Rattle.pooma_machine.specs.Told.{Window};
 ghost use Rattle.pooma_machine.specs.Values.{IsComplete};
 ghost use Rattle.pooma_model.specs.declared.statement.Action.{Action};
 ghost use Rattle.pooma_model.specs.declared.statement.Action.TheVariants as action;
@@ -25,10 +26,14 @@ ghost use Rattle.pooma_split.specs.Statements.{as_fault, done_in_order, fault_am
 ghost use Rattle.pooma_store.specs.Standing.{OwnerHas};
 ghost use Rattle.pooma_view.specs.Slots.{cell_named, positions_of};
 ghost use Rattle.pooma_view.specs.Views.{Viewed};
+ghost use Rattle.pooma_window.specs.Questions.{Question};
+ghost use Rattle.pooma_window.specs.Windows.{IsPickedFrom, IsStopped};
 ghost use Rattle.pooma_run.specs.Doing.{CanBeDone, IsReduction, fault_in_history, pieces_answers, works_done, works_fault};
 ghost use Rattle.pooma_run.specs.Plan.{stale_after};
-ghost use Rattle.pooma_run.specs.Served.{AreFirst, IsSound, entries_in};
+ghost use Rattle.pooma_run.specs.Served.{AreFirst, IsSound, ToldAreFirst, entries_in};
+ghost use Rattle.pooma_run.specs.Told.{HasTold, HasToldFirst};
 ghost use Rattle.pooma_run.specs.Underway.{Gathers, IsHere};
+ghost use Rattle.pooma_run.specs.Workers.{HasShared, HasSharedFirst};
 
 use crate::laws::laws_below;
 use pooma_law::{legal_histories_agree, ser_composes};
@@ -100,3 +105,17 @@ pub fn windows_serve_positions()
     objects_lend();
     positions_are_served();
 }
+
+/// The windows that a run has told are the first of its program, as a law for proofs on what a journal was told: the clauses of
+/// `run_one` and `run_many` on windows say so, where they answer and after want of memory. With `program_is_sound`,
+/// `windows_serve_positions` speaks of them.
+pub fn told_windows_are_first()
+    ensures picked { (program : Programmed) (known told : Option (List Window)) (old new : Option (List Question))
+        → HasTold (IsPickedFrom pieces) program known told old new → ToldAreFirst program known told }
+    ensures picked_short { (program : Programmed) (known told : Option (List Window)) (old new : Option (List Question))
+        → HasToldFirst (IsPickedFrom pieces) (IsStopped pieces) program known told old new → ToldAreFirst program known told }
+    ensures shared { (workers : ℕ) (program : Programmed) (known told : Option (List Window))
+        → HasShared workers program known told → ToldAreFirst program known told }
+    ensures shared_short { (workers : ℕ) (program : Programmed) (known told : Option (List Window))
+        → HasSharedFirst workers program known told → ToldAreFirst program known told }
+{}
