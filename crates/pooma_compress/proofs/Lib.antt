@@ -1,1 +1,3 @@
 pub mod EqualNumbers
+pub mod RowNumbers
+pub mod RowPlaces

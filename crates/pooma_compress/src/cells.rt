@@ -1,6 +1,9 @@
-ghost use Rattle.std.specs.Prelude.{◌≡◌, ◌↔◌, ◌<◌, [], true, false, length, replicate, slice_get, slice_set, All, IsTrue, Some, IfSome, IfNone, OnOk, OnErr, IfOk};
-ghost use Rattle.pooma_compress.specs.Kept.{AreEqual};
+//! Lists of numbers in their two forms.
+ghost use Rattle.std.specs.Prelude.{◌≡◌, ◌≢◌, ◌↔◌, ◌<◌, pos, [], true, false, length, replicate, slice_get, slice_index_or, slice_set, All, IsTrue, IsSome, Some, IfSome, IfNone, OnOk, OnErr, IfOk, IfErr};
+ghost use Rattle.pooma_compress.specs.Kept.{AreEqual, IsOther};
+ghost use Rattle.pooma_compress.specs.Rows.{IsRowOf, IsRowWithin, IsSameBeside};
 
+use crate::rows;
 use std::alloc::{AllocError, Global};
 use std::marker::Model;
 
@@ -20,6 +23,9 @@ enum Form {
 #[derive(Debug, Drop)]
 pub struct Cells {
     form: Form,
+
+    // Where a number that is not the first one was when `compress` last looked for one.
+    other: usize,
 }
 
 impl Model for Cells {
@@ -39,6 +45,7 @@ impl Cells {
     {
         Cells {
             form: Form::One { value, len },
+            other: 0,
         }
     }
 
@@ -77,6 +84,44 @@ impl Cells {
         matches!(self.form, Form::One { .. })
     }
 
+    /// The number that all are, if the list is kept as one value.
+    pub fn one_value(&self) -> Option<i64>
+        ensures found { IsSome result ↔ IsTrue self.now.one }
+        ensures numbers { IfSome result (λ v. self.now.numbers ≡ replicate (length self.now.numbers) v) }
+    {
+        match &self.form {
+            Form::One { value, .. } => Some(*value),
+            Form::Whole(_) => None,
+        }
+    }
+
+    /// Copies a row of the numbers out: those at the places `first`, `first + stride` and so on, which may go backwards.
+    pub fn read_row(&self, first: usize, stride: i64, out: &mut [i64])
+        requires { IsRowWithin first stride (length out.old) (length self.now.numbers) }
+        ensures { IsRowOf self.now.numbers first stride out.new }
+    {
+        match &self.form {
+            Form::One { value, .. } => out.fill(*value),
+            Form::Whole(values) => rows::read_row(values, first, stride, out),
+        }
+    }
+
+    /// Puts numbers at the places `first`, `first + stride` and so on, which may go backwards, and leaves the others.
+    pub fn write_row(&mut self, first: usize, stride: i64, row: &[i64])
+        requires within { IsRowWithin first stride (length row.now) (length self.old.numbers) }
+        requires apart { stride ≢ pos 0 }
+        requires whole { self.old.one ≡ false }
+        ensures len { length self.new.numbers ≡ length self.old.numbers }
+        ensures row { IsRowOf self.new.numbers first stride row.now }
+        ensures beside { IsSameBeside first stride (length row.now) self.old.numbers self.new.numbers }
+        ensures whole { self.new.one ≡ false }
+    {
+        match &mut self.form {
+            Form::One { .. } => unreachable!(),
+            Form::Whole(values) => rows::write_row(values, first, stride, row),
+        }
+    }
+
     /// Puts a number at this place, counted from 0.
     pub fn set(&mut self, k: usize, v: i64)
         requires there { k < length self.old.numbers }
@@ -90,7 +135,8 @@ impl Cells {
         }
     }
 
-    /// Keeps the list as one value if all of its numbers are equal. It looks no further than the first that differs.
+    /// Keeps the list as one value if all of its numbers are equal. It looks no further than the first that differs, and
+    /// not even that far where the one that it found before still does.
     pub fn compress(&mut self)
         ensures numbers { self.new.numbers ≡ self.old.numbers }
         ensures one { IsTrue self.new.one ↔ AreEqual self.new.numbers }
@@ -98,9 +144,13 @@ impl Cells {
         let Form::Whole(values) = &self.form else {
             return;
         };
+        if is_other(values, self.other) {
+            return;
+        }
         let len = values.len();
-        if let Some(value) = common_value(values) {
-            *self = Cells::one(value, len);
+        match common_value(values) {
+            Ok(value) => *self = Cells::one(value, len),
+            Err(place) => self.other = place,
         }
     }
 
@@ -127,25 +177,36 @@ impl Cells {
             },
             Form::Whole(values) => Form::Whole(Vec::from_slice(alloc, values)?),
         };
-        Ok(Cells { form })
+        Ok(Cells {
+            form,
+            other: self.other,
+        })
     }
 }
 
-// The value that all of these numbers have, if they have one: 0 where there are none.
-fn common_value(values: &[i64]) -> Option<i64>
-    ensures found { IfSome result (λ v. values.now ≡ replicate (length values.now) v) }
-    ensures none { IfNone result (¬ (AreEqual values.now)) }
+// Whether the number at this place is not the first one.
+fn is_other(values: &[i64], place: usize) -> bool
+    ensures { IsTrue result ↔ IsOther values.now place }
+{
+    place < values.len() && values[place] != values[0]
+}
+
+// The value that all of these numbers have, 0 where there are none; or the place of one that is not the first.
+fn common_value(values: &[i64]) -> Result<i64, usize>
+    ensures found { IfOk result (λ v. values.now ≡ replicate (length values.now) v) }
+    ensures other { IfErr result (λ k. IsOther values.now k) }
 {
     let value = values.first().copied().unwrap_or(0);
-    if are_all(values, value) {
-        Some(value)
-    } else {
-        None
+    match other_than(values, value) {
+        Some(place) => Err(place),
+        None => Ok(value),
     }
 }
 
-fn are_all(values: &[i64], value: i64) -> bool
-    ensures { IsTrue result ↔ All (λ x. x ≡ value) values.now }
+// The place of the first number that is not this one.
+fn other_than(values: &[i64], value: i64) -> Option<usize>
+    ensures found { IfSome result (λ k. (k < length values.now) × (slice_index_or values.now k (pos 0) ≢ value)) }
+    ensures none { IfNone result (All (λ x. x ≡ value) values.now) }
 {
-    values.iter().all(|x| *x == value)
+    values.iter().position(|x| *x != value)
 }

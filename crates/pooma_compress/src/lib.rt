@@ -2,5 +2,6 @@
 #![tactic(auto)]
 
 mod cells;
+mod rows;
 
 pub use cells::Cells;
