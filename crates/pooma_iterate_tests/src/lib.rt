@@ -1,5 +1,5 @@
-//! What queues, the iterate machine, the desk, work loops, cut positions and pieces answer: worked examples and tables, one
-//! file for each crate under test.
+//! What queues, ready numbers, the iterate machine, the desk, work loops, cut positions and pieces answer: worked examples and
+//! tables, one file for each crate under test.
 #![tactic(auto)]
 
 #[cfg(test)]
@@ -16,6 +16,8 @@ mod piece;
 mod queue;
 #[cfg(test)]
 mod readiness;
+#[cfg(test)]
+mod ready;
 #[cfg(test)]
 mod sharing;
 #[cfg(test)]
