@@ -1,5 +1,6 @@
 mod Bits
 mod Chosen
+mod Factors
 mod Marks
 mod Places
 mod RowTotals

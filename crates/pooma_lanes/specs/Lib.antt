@@ -1,4 +1,5 @@
 pub mod Blocks
+pub mod Divisors
 pub mod Orders
 pub mod Rows
 pub mod Totals

@@ -5,16 +5,20 @@
 
 mod block;
 mod choice;
+mod divisor;
 mod kernel;
 mod orders;
 mod plain;
+mod quotients;
 mod row;
 mod sums;
 mod totals;
 
 pub use choice::select_rows;
+pub use divisor::Divisor;
 pub use orders::{Compare, compare_rows, max_rows, min_rows};
 pub use plain::{abs_rows, and_rows, div_rows, mul_rows, neg_rows, or_rows, rem_rows};
+pub use quotients::{div_rows_by, rem_rows_by};
 pub use row::{Place, Row};
 pub use sums::{add_rows, sub_rows};
 pub use totals::sum_row;
