@@ -3,6 +3,7 @@ pub mod Listed
 pub mod Plans
 pub mod Ties
 pub mod Holders
+pub mod Counting
 pub mod Keeps
 pub mod Worth
 pub mod Lending

@@ -7,5 +7,6 @@ pub mod Kept
 pub mod Slots
 pub mod Machine
 pub mod Causes
+pub mod Counts
 pub mod Told
 pub mod Journal

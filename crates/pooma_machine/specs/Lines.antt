@@ -1,9 +1,9 @@
 -- How the queues of the objects stand for what the entries of a plan ask for.
 use Rattle.std.specs.Prelude.{◌≡◌, ◌==◌, ℕ, Bool, false, List, [], ◌∷◌, map, slice_index_or, Option, None, Some, Contains, fold, option_map, nat_lt, if◌then◌else◌}
-use Rattle.std.specs.List.{list_any}
+use Rattle.std.specs.List.{list_any, sum_by}
 use Rattle.pooma_queue.specs.declared.queue.Mode.{Mode}
 use Rattle.pooma_queue.specs.declared.queue.Asked.{Asked}
-use Rattle.pooma_queue.specs.Requests.{Waiting, IsInOrder, holder_of, let_go}
+use Rattle.pooma_queue.specs.Requests.{Waiting, IsInOrder, held_back_by, holder_of, let_go}
 use Rattle.pooma_machine.specs.declared.step.Request.{Request}
 use Rattle.pooma_machine.specs.declared.lines.Holder.{Holder}
 use Rattle.pooma_machine.specs.Steps.{AsksFor}
@@ -51,3 +51,7 @@ lesser (Some held) object (Some by) = if nat_lt by held.by then Some (record { o
 -- the least entry that holds this one back, over the first object by which it does
 abbrev pub held_by : List Waiting → ℕ → List Request → Option Holder
 held_by queues entry requests = fold (λ found r. lesser found r.object (holder_over queues entry r)) None requests
+
+-- how many requests of earlier entries hold this one back, over all objects
+abbrev pub counted : List Waiting → ℕ → List Request → ℕ
+counted queues entry requests = sum_by (λ r. held_back_by (line queues r.object) entry r.mode) requests

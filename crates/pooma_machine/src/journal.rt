@@ -1,5 +1,6 @@
-ghost use Rattle.std.specs.Prelude.{◌≡◌, ◌<◌, [], IfOk, IfSome, OnOk, OnErr, length, map, take, slice_get};
+ghost use Rattle.std.specs.Prelude.{◌≡◌, ◌<◌, [], All, IfOk, IfSome, OnOk, OnErr, length, map, take, slice_get};
 ghost use Rattle.pooma_machine.specs.Journal.{entry_of};
+ghost use Rattle.pooma_machine.specs.Steps.{IsRequestList};
 
 use crate::machine::Machine;
 use crate::step::{Event, Request};
@@ -58,11 +59,15 @@ struct Told {
 }
 
 impl Model for Told {
+    ghost use Rattle.std.specs.Prelude.{All};
+    ghost use Rattle.pooma_machine.specs.Steps.{IsRequestList};
     ghost use Rattle.pooma_machine.specs.Told.{Window};
 
     ghost Value = { Window };
 
     ghost view = { λ t. record { entries = t.entries.items; events = t.events.items } };
+
+    ghost invariant = { λ t. All (λ entry. IsRequestList entry.requests) t.entries.items };
 }
 
 /// What is told of each window, once all its entries were released.
@@ -131,10 +136,12 @@ impl ListJournal {
         self.windows.len()
     }
 
-    /// The entries of a window.
+    /// The entries of a window. What each asked for is as a work's requests are: ascending by object, one request for each
+    /// object, at most one of them to write.
     pub fn entries(&self, w: usize) -> &[Entry]
         requires { w < length self.now }
-        ensures { IfSome (slice_get self.now w) (λ window. result.now ≡ window.entries) }
+        ensures entries { IfSome (slice_get self.now w) (λ window. result.now ≡ window.entries) }
+        ensures form { All (λ entry. IsRequestList entry.requests) result.now }
     {
         &self.windows[w].entries
     }
@@ -165,7 +172,8 @@ impl<W: Work> Journal<W> for ListJournal {
 
 // What is told of a machine's entries.
 fn entries_of<W: Work>(alloc: Global, machine: &Machine<W>) -> Result<Vec<Entry>, AllocError>
-    ensures { IfOk result (λ entries. entries.items ≡ map (entry_of W.meaning) machine.now.plan) }
+    ensures entries { IfOk result (λ entries. entries.items ≡ map (entry_of W.meaning) machine.now.plan) }
+    ensures form { IfOk result (λ entries. All (λ entry. IsRequestList entry.requests) entries.items) }
 {
     let mut entries = Vec::new(alloc);
     for j in 0..machine.issued() {

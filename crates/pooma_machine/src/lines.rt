@@ -1,11 +1,11 @@
-ghost use Rattle.std.specs.Prelude.{◌≡◌, ◌+◌, ◌<◌, ◌≤◌, ◌++◌, ℕ, [], All, Contains, IfOk, OnOk, IsOk, length};
-ghost use Rattle.pooma_queue.specs.Requests.{MayGoOn, OnlyLastWrites, front_of};
+ghost use Rattle.std.specs.Prelude.{◌≡◌, ◌+◌, ◌^◌, ◌<◌, ◌≤◌, ◌++◌, ℕ, [], All, Contains, IfOk, OnOk, IsOk, length};
+ghost use Rattle.pooma_queue.specs.Requests.{AsksHere, IsInTurn, MayGoOn, OnlyLastWrites, front_of, held_back_by};
 ghost use Rattle.pooma_queue.specs.declared.queue.Asked.{Asked};
 ghost use Rattle.pooma_machine.specs.Steps.{IsRequestList};
-ghost use Rattle.pooma_machine.specs.Lines.{line, room_at, asked_at, line_after, lesser, held_by};
+ghost use Rattle.pooma_machine.specs.Lines.{line, room_at, asked_at, counted, line_after, lesser, held_by};
 
 use crate::step::Request;
-use pooma_queue::{Asked, Queue};
+use pooma_queue::{Asked, Mode, Queue};
 use std::alloc::{AllocError, Global};
 use std::marker::Model;
 
@@ -115,6 +115,33 @@ impl Lines {
             found = lesser(found, request.object, holder);
         }
         found
+    }
+
+    /// How many requests of earlier entries hold this one back, over all objects that it asks for.
+    pub(crate) fn count(&self, entry: u32, requests: &[Request]) -> u64
+        requires objects { All (λ r. r.object < length self.now) requests.now }
+        requires form { IsRequestList requests.now }
+        requires in_turn { (o : ℕ) → IsInTurn (line self.now o) }
+        requires asks { All (λ r. AsksHere entry r.mode (line self.now r.object)) requests.now }
+        ensures { result ≡ counted self.now entry requests.now }
+    {
+        let mut total = 0u64;
+        for request in requests {
+            total += self.earlier(entry, request.object, request.mode);
+        }
+        total
+    }
+
+    // How many requests of earlier entries hold back this entry's request of the object, whose number is of 32 bits.
+    fn earlier(&self, entry: u32, object: u32, mode: Mode) -> u64
+        requires there { object < length self.now }
+        requires in_turn { IsInTurn (line self.now object) }
+        requires asks { AsksHere entry mode (line self.now object) }
+        ensures count { result ≡ held_back_by (line self.now object) entry mode }
+        ensures few { result ≤ entry }
+        ensures object { object < 2 ^ 32 }
+    {
+        self.queues[object as usize].earlier(entry, mode) as u64
     }
 
     /// The front of an object's queue, in which what may go on stands. Only its last may be an open request to write.

@@ -1,8 +1,9 @@
 ghost use Rattle.std.specs.Prelude.{◌≡◌, ◌↔◌, ◌+◌, ◌-◌, ◌^◌, ◌<◌, ◌≤◌, ℕ, [], ◌∷◌, ◌++◌, Err, slice_get, Some, All, IfOk, OnOk, OnErr, IfErr, IsOk, IsTrue, IfSome, MatchOption, IsOkUnless, is_some, length, map, option_copied};
 ghost use Rattle.std.specs.Arc.{arc_value};
-ghost use Rattle.pooma_machine.specs.Steps.{Conflict, NoneOut, IsLeastUnreleased, IsLeastReady, IsLeastReadyFor, IsReady, IsReadyFor, IsHeldBack, IsDispatchedAt, IsLegal, is_out, is_released, issued, status_of, event_of};
+ghost use Rattle.pooma_machine.specs.Steps.{Conflict, NoneOut, IsLeastUnreleased, IsLeastReady, IsLeastReadyFor, IsReady, IsReadyFor, IsHeldBack, IsDispatchedAt, IsLegal, NothingBlocks, is_out, is_released, issued, status_of, event_of};
 ghost use Rattle.pooma_machine.specs.Values.{asks_of, values, IsComplete};
 ghost use Rattle.pooma_machine.specs.Slots.{contents};
+ghost use Rattle.pooma_machine.specs.Counts.{IsCount};
 ghost use Rattle.pooma_machine.specs.Became.{BecameReady, TellsReady};
 
 use crate::became::Became;
@@ -214,6 +215,17 @@ impl<W: Work> Machine<W> {
         ensures least { MatchOption result ((j : ℕ) → from ≤ j → IsReadyFor (asks_of W.meaning self.now.plan) self.now.history object j → ⊥) (IsLeastReadyFor (asks_of W.meaning self.now.plan) self.now.history object from) }
     {
         self.table.ready_for(object, from)
+    }
+
+    /// How many pairs there are of an earlier entry that was not released and an object over which the two conflict. An entry
+    /// that is waiting may be dispatched exactly where there is none. It takes a binary search for each object that the entry
+    /// asks for, and no memory.
+    pub fn count(&self, j: u32) -> u64
+        requires { j < length self.now.plan }
+        ensures pairs { IsCount (asks_of W.meaning self.now.plan) self.now.history j result }
+        ensures none { (result ≡ 0) ↔ NothingBlocks (asks_of W.meaning self.now.plan) self.now.history j }
+    {
+        self.table.count(j)
     }
 
     /// How many entries were issued.

@@ -5,6 +5,7 @@ ghost use Rattle.pooma_machine.specs.Values.{asks_of, IsComplete};
 ghost use Rattle.pooma_machine.specs.Kept.{Schedule, first_open};
 ghost use Rattle.pooma_queue.specs.Requests.{IsInOrder, OnlyLastWrites, holds_back};
 ghost use Rattle.pooma_queue.specs.declared.queue.Asked.{Asked};
+ghost use Rattle.pooma_machine.specs.Counts.{IsCount};
 ghost use Rattle.pooma_machine.specs.Became.{BecameReady, IsListOf, IsFreed, IsFreedBy, IsFreedOver, Names, Notes, TellsReady};
 
 use crate::became::Became;
@@ -210,6 +211,14 @@ impl<W: Work> Table<W> {
             Some(Holder { object, by }) => Err(DispatchError::NotReady { object, by }),
             None => Ok(()),
         }
+    }
+
+    /// How many pairs of an earlier unreleased entry and an object over which the two conflict hold this entry back.
+    pub(crate) fn count(&self, j: u32) -> u64
+        requires { j < length self.now.plan }
+        ensures { IsCount (asks_of W.meaning self.now.plan) self.now.history j result }
+    {
+        self.lines.count(j, self.works[j as usize].requests())
     }
 
     /// Notes the dispatch of an entry that may be dispatched.
