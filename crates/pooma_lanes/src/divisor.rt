@@ -17,6 +17,7 @@ enum Way {
 }
 
 /// A divisor that is not 0, with what takes the place of a division by it.
+#[derive(Drop)]
 pub struct Divisor {
     number: i64,
     size: u64,
