@@ -269,3 +269,54 @@ fn one_request_for_each_object(rt: HostRuntime) {
     assert!(rt; are_requests(requests(alloc, 1, 7), high));
     assert!(rt; are_requests(requests(alloc, 0, 5), &[(5, Mode::Write)]));
 }
+
+// A piece of statement 3 that copies guard cells of array 0 from object 2, which owns them, to object 5.
+fn guarding(alloc: Global, positions: BoxN) -> Option<Piece>
+    requires dims { length positions ≡ 1 }
+{
+    let code = code_of(alloc, Ok(Expr::Literal(0)))?;
+    let [] = code.reads() else {
+        return None;
+    };
+    if positions.count() > MOST_POSITIONS {
+        return None;
+    }
+    let task = Task::Guard { array: 0 };
+    Piece::new(alloc, 3, positions, task, code, Some(5), &[2]).ok()
+}
+
+// A patch of cells 4 to 11, each with its own coordinate.
+fn coordinates(alloc: Global) -> Option<Patch> {
+    let mut patch = Patch::zeros(from_to(4, 11)?);
+    Piece::prepared(alloc, &mut patch).ok()?;
+    for at in 4..12 {
+        let cell = Cell::of1(at);
+        if patch.is_one() || !patch.area().contains(&cell) {
+            return None;
+        }
+        patch.set(&cell, i64::from(at));
+    }
+    Some(patch)
+}
+
+// What copying the cells from a first to a last one leaves: six of the cells that are written.
+fn guarded(alloc: Global, first: i32, last: i32) -> Option<[Option<i64>; 6]> {
+    let piece = guarding(alloc, from_to(first, last)?)?;
+    let mut patch = zeros(alloc)?;
+    let reads = [Arc::new(alloc, coordinates(alloc)?).ok()?];
+    if patch.is_one() || !piece.fits(Some(&patch), &reads) {
+        return None;
+    }
+    let _done = run_piece(&piece, Some(&mut patch), &reads);
+    Some(six(&patch))
+}
+
+#[test]
+fn guard_cells_get_the_numbers_of_their_owner(rt: HostRuntime) {
+    let alloc = rt.alloc();
+    let zero = Some(0);
+    assert!(rt; guarded(alloc, 4, 7) == Some([zero, zero, zero, zero, Some(4), Some(7)]));
+    assert!(rt; guarded(alloc, 5, 6) == Some([zero; 6]));
+    // the owner's patch does not have cell 3
+    assert!(rt; guarded(alloc, 3, 7) == None);
+}

@@ -14,9 +14,9 @@ use Rattle.pooma_field.specs.ShapeOf.{shape_of}
 use Rattle.pooma_field.specs.Slabs.{cell_sources}
 use Rattle.pooma_expr.specs.Trees.{views_of}
 use Rattle.pooma_piece.specs.declared.task.Task.{Task}
-use Rattle.pooma_piece.specs.declared.task.Task.TheVariants.{Assign, Reduce, Fill}
+use Rattle.pooma_piece.specs.declared.task.Task.TheVariants.{Assign, Reduce, Fill, Guard}
 use Rattle.pooma_piece.specs.Gathered.{HasMembers}
-use Rattle.pooma_piece.specs.Lent.{FillsIn, HasCell, HasCells, IsFitting, SetsIn, fits, has_all, has_cells, has_one, have_sources, is_in, lent_for, read_in, task_fits}
+use Rattle.pooma_piece.specs.Lent.{FillsIn, HasAll, HasCell, HasCells, IsFitting, SetsIn, copied_from, fits, has_all, has_cells, has_one, have_sources, is_in, lent_for, read_in, task_fits}
 use Rattle.pooma_piece.specs.Pieces.{Pieced}
 use Rattle.pooma_piece.proofs.Seen.{and_parts, is_in_is}
 
@@ -101,15 +101,29 @@ fills_from members shape slab piece (Some area) reads h =
     (at_each members (is_in area) piece.positions (λ c inside. passes_in area c (h c inside).0))
     (at_each members (λ d. have_sources piece (Some area) reads piece.reads (cell_sources shape slab d)) piece.positions (λ c inside. sources_from piece (Some area) reads piece.reads (cell_sources shape slab c) (h c inside).1))
 
-task_then : HasMembers → (task : Task) (piece : Pieced) (written : Option (List Interval)) (reads : List (List Interval)) → task_fits task piece written reads ≡ true → SetsIn task piece written reads
+all_then : HasMembers → (o : Option (List Interval)) (box : List Interval) → has_all o (cells_of box) ≡ true → HasAll o box
+all_then members None box e = absurd (cc)
+all_then members (Some area) box e = λ c inside. is_in_is area c (at_cell members (is_in area) box c e inside)
+
+all_from : HasMembers → (o : Option (List Interval)) (box : List Interval) → HasAll o box → has_all o (cells_of box) ≡ true
+all_from members None box h = absurd h
+all_from members (Some area) box h = at_each members (is_in area) box (λ c inside. passes_in area c (h c inside))
+
+pub task_then : HasMembers → (task : Task) (piece : Pieced) (written : Option (List Interval)) (reads : List (List Interval)) → task_fits task piece written reads ≡ true → SetsIn task piece written reads
 task_then members (Assign target) piece written reads e = cells_then members written target piece.positions e
 task_then members (Reduce reduction) piece written reads e = tt
 task_then members (Fill shape slab array) piece written reads e = fills_then members (shape_of shape) slab piece written reads e
+task_then members (Guard array) piece written reads e =
+    let parts = and_parts (has_all written (cells_of piece.positions)) (has_all (lent_for piece written reads (copied_from piece)) (cells_of piece.positions)) e in
+    (all_then members written piece.positions parts.0, all_then members (lent_for piece written reads (copied_from piece)) piece.positions parts.1)
 
 task_from : HasMembers → (task : Task) (piece : Pieced) (written : Option (List Interval)) (reads : List (List Interval)) → SetsIn task piece written reads → task_fits task piece written reads ≡ true
 task_from members (Assign target) piece written reads h = cells_from members written target piece.positions h
 task_from members (Reduce reduction) piece written reads h = refl
 task_from members (Fill shape slab array) piece written reads h = fills_from members (shape_of shape) slab piece written reads h
+task_from members (Guard array) piece written reads h =
+    both_true (has_all written (cells_of piece.positions)) (has_all (lent_for piece written reads (copied_from piece)) (cells_of piece.positions))
+    (all_from members written piece.positions h.0) (all_from members (lent_for piece written reads (copied_from piece)) piece.positions h.1)
 
 pub fits_is : HasMembers → (piece : Pieced) (written : Option (List Interval)) (reads : List (List Interval)) → (fits piece written reads ≡ true) ↔ IsFitting piece written reads
 fits_is members piece written reads = (then, from)

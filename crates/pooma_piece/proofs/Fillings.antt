@@ -134,7 +134,7 @@ content_of_area : (o : Option Numbered) (c : List ℤ) → HasCell (option_map a
 content_of_area None c h = absurd h
 content_of_area (Some content) c h = (content, refl, h)
 
-changed_cell : (f : List ℤ → Change) (cells : List (List ℤ)) (m : ℕ) (change : Change) → slice_get (map f cells) m ≡ Some change → (c : List ℤ) × (slice_get cells m ≡ Some c) × (f c ≡ change)
+pub changed_cell : (f : List ℤ → Change) (cells : List (List ℤ)) (m : ℕ) (change : Change) → slice_get (map f cells) m ≡ Some change → (c : List ℤ) × (slice_get cells m ≡ Some c) × (f c ≡ change)
 changed_cell f [] m change e = cc
 changed_cell f (c ∷ cells) zero change e = (c, refl, same_Some (f c) change e)
 changed_cell f (c ∷ cells) (suc m) change e = changed_cell f cells m change e

@@ -10,3 +10,4 @@ pub mod Totals
 pub mod Steps
 pub mod Tests
 pub mod Words
+pub mod Copying

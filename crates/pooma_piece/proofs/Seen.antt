@@ -24,7 +24,7 @@ use Rattle.pooma_expr.specs.Values.{Contents}
 use Rattle.pooma_piece.specs.declared.source.Source.{Source}
 use Rattle.pooma_piece.specs.declared.source.Source.TheVariants.{Written, Read}
 use Rattle.pooma_piece.specs.declared.task.Task.{Task}
-use Rattle.pooma_piece.specs.declared.task.Task.TheVariants.{Assign, Reduce, Fill}
+use Rattle.pooma_piece.specs.declared.task.Task.TheVariants.{Assign, Reduce, Fill, Guard}
 use Rattle.pooma_piece.specs.Kept.{sources_of}
 use Rattle.pooma_piece.specs.Lent.{fits, has_cells, is_in, is_written, lent_for, number_in, read_in, same_slot, same_view, seen_by, task_fits}
 use Rattle.pooma_piece.specs.Meaning.{area_of}
@@ -182,6 +182,7 @@ pub as_many : (task : Task) (code : Expr) (reads : List ℕ) → AreReads task c
 as_many (Assign target) code reads h = omega (arith, h)
 as_many (Reduce reduction) code reads h = omega (arith, h)
 as_many (Fill shape slab array) code reads h = let none : length (views_of code) ≡ 0 = ap length h.0 in omega (arith, none)
+as_many (Guard array) code reads h = let none : length (views_of code) ≡ 0 = ap length h.0 in omega (arith, none)
 
 -- the same of a code, views and sources that are those of the piece
 pub can_read_as : (piece : Pieced) (w : Option Numbered) (r : List Numbered) (p : List ℤ) → IsPiece piece → IsIn piece.positions p → CanSee piece w r p → (code : Expr) → code ≡ piece.code → (views : List Viewed) → views ≡ views_of code → (sources : List Source) → sources ≡ sources_of piece → (k : ℕ) → k < length (views_of code) → CanRead views sources w r k p

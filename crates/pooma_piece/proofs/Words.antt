@@ -23,11 +23,12 @@ use Rattle.pooma_machine.specs.Values.{lent_by, put_back, read_objects, written_
 use Rattle.pooma_law.specs.Ser.{Results, with_work}
 use Rattle.pooma_piece.specs.declared.outcome.Outcome.{Outcome}
 use Rattle.pooma_piece.specs.declared.task.Task.{Task}
-use Rattle.pooma_piece.specs.declared.task.Task.TheVariants.{Assign, Reduce, Fill}
+use Rattle.pooma_piece.specs.declared.task.Task.TheVariants.{Assign, Reduce, Fill, Guard}
 use Rattle.pooma_piece.specs.Effects.{before_fault, change_to, changes_over, content_by, value_at}
+use Rattle.pooma_piece.specs.Copies.{copy_change}
 use Rattle.pooma_piece.specs.Fills.{fill_change, filled_at, numbers_lent}
 use Rattle.pooma_piece.specs.Gathered.{HasMembers}
-use Rattle.pooma_piece.specs.Lent.{is_written, lent_for, number_in, read_in, seen_by}
+use Rattle.pooma_piece.specs.Lent.{copied_from, is_written, lent_for, number_in, read_in, seen_by}
 use Rattle.pooma_piece.specs.Meaning.{pieces}
 use Rattle.pooma_piece.specs.Pieces.{Pieced, requests_of}
 use Rattle.pooma_piece.specs.Words.{AllWords, GivesWord, MakesWords, TaskMakesWords}
@@ -137,6 +138,11 @@ module _ (members : HasMembers) where
         changed_words (map (fill_change (shape_of shape) slab piece (Some old) reads) (cells_of piece.positions)) old
         (All-map (λ (x : Change). IsWord x.number) (fill_change (shape_of shape) slab piece (Some old) reads) (cells_of piece.positions)
         (λ k d below. fill_fits (shape_of shape) slab makes (slice_index_or (cells_of piece.positions) k d)))
+        words
+    content_words (Guard array) makes =
+        changed_words (map (copy_change piece (Some old) reads) (cells_of piece.positions)) old
+        (All-map (λ (x : Change). IsWord x.number) (copy_change piece (Some old) reads) (cells_of piece.positions)
+        (λ k d below. lent_number piece (Some old) reads of_old of_reads (copied_from piece) (slice_index_or (cells_of piece.positions) k d)))
         words
 
   -- ---- pieces, one after another

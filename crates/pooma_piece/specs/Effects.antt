@@ -12,7 +12,8 @@ use Rattle.pooma_expr.specs.Values.{Checked, value}
 use Rattle.pooma_piece.specs.declared.outcome.Outcome.{Outcome}
 use Rattle.pooma_piece.specs.declared.outcome.Outcome.TheVariants.{Done, Value, Fault}
 use Rattle.pooma_piece.specs.declared.task.Task.{Task}
-use Rattle.pooma_piece.specs.declared.task.Task.TheVariants.{Assign, Reduce, Fill}
+use Rattle.pooma_piece.specs.declared.task.Task.TheVariants.{Assign, Reduce, Fill, Guard}
+use Rattle.pooma_piece.specs.Copies.{copy_change}
 use Rattle.pooma_piece.specs.Fills.{fill_change}
 use Rattle.pooma_piece.specs.Lent.{seen_by}
 use Rattle.pooma_piece.specs.Pieces.{Pieced}
@@ -67,6 +68,7 @@ content_by (Assign target) piece old reads =
 content_by (Reduce reduction) piece old reads = old
 content_by (Fill shape slab array) piece old reads =
     with_changes old (map (fill_change (shape_of shape) slab piece (Some old) reads) (cells_of piece.positions))
+content_by (Guard array) piece old reads = with_changes old (map (copy_change piece (Some old) reads) (cells_of piece.positions))
 
 -- what the piece answers
 abbrev pub answer_by : Task → Pieced → Option Numbered → List Numbered → Outcome
@@ -75,3 +77,4 @@ answer_by (Reduce reduction) piece written reads =
     first_fault_or (value_at piece written reads) (cells_of piece.positions)
     (Value (kept_of reduction (numbers_over (value_at piece written reads) (cells_of piece.positions))))
 answer_by (Fill shape slab array) piece written reads = Done
+answer_by (Guard array) piece written reads = Done

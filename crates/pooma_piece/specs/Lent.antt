@@ -1,5 +1,5 @@
 -- What a piece has to do with the patches that are lent to it.
-use Rattle.std.specs.Prelude.{◌≡◌, ◌⊎◌, ℕ, ◌==◌, ℤ, pos, int_le, Bool, true, false, ◌&&◌, Option, None, Some, List, [], ◌∷◌, slice_get, slice_index, Contains, if◌then◌else◌}
+use Rattle.std.specs.Prelude.{◌≡◌, ◌⊎◌, ℕ, ◌==◌, ℤ, pos, int_le, Bool, true, false, ◌&&◌, Option, None, Some, List, [], ◌∷◌, slice_get, slice_index, slice_index_or, Contains, if◌then◌else◌}
 use Rattle.std.specs.Cmp.Lexicographic.{pointwise}
 use Rattle.std.specs.List.{list_all, position_or_len}
 use Rattle.std.specs.Ordering.{int_eq}
@@ -17,7 +17,7 @@ use Rattle.pooma_expr.specs.Trees.{views_of}
 use Rattle.pooma_expr.specs.Values.{Contents}
 use Rattle.pooma_machine.specs.Values.{read_objects}
 use Rattle.pooma_piece.specs.declared.task.Task.{Task}
-use Rattle.pooma_piece.specs.declared.task.Task.TheVariants.{Assign, Reduce, Fill}
+use Rattle.pooma_piece.specs.declared.task.Task.TheVariants.{Assign, Reduce, Fill, Guard}
 use Rattle.pooma_piece.specs.Pieces.{Pieced, requests_of}
 
 -- whether two slots say the same of their axes
@@ -34,6 +34,10 @@ same_view v w = (v.array == w.array) && pointwise same_slot v.slots w.slots
 -- the object in which a view of the code is read
 abbrev pub read_in : Pieced → Viewed → ℕ
 read_in piece view = slice_index piece.reads (position_or_len (same_view view) (views_of piece.code))
+
+-- the object in which the cells of a guard copy are read
+abbrev pub copied_from : Pieced → ℕ
+copied_from piece = slice_index_or piece.reads 0 0
 
 -- whether the object is the one that is written
 abbrev pub is_written : Option ℕ → ℕ → Bool
@@ -87,13 +91,16 @@ have_sources piece written reads (object ∷ objects) [] = true
 have_sources piece written reads (object ∷ objects) (c ∷ cells) =
     has_one (lent_for piece written reads object) c && have_sources piece written reads objects cells
 
--- whether each cell that the task sets lies in the area of the patch that is written, and each source of a fill in that of its own
+-- whether each cell that the task sets lies in the area of the patch that is written, each source of a fill in that of its own, and
+-- each cell that is copied in that of the patch that is read
 abbrev pub task_fits : Task → Pieced → Option (List Interval) → List (List Interval) → Bool
 task_fits (Assign target) piece written reads = has_cells written target.slots (cells_of piece.positions)
 task_fits (Reduce reduction) piece written reads = true
 task_fits (Fill shape slab array) piece written reads =
     has_all written (cells_of piece.positions)
     && list_all (λ c. have_sources piece written reads piece.reads (cell_sources (shape_of shape) slab c)) (cells_of piece.positions)
+task_fits (Guard array) piece written reads =
+    has_all written (cells_of piece.positions) && has_all (lent_for piece written reads (copied_from piece)) (cells_of piece.positions)
 
 -- whether each cell that the piece reads or sets lies in the area of the patch in which it does
 abbrev pub fits : Pieced → Option (List Interval) → List (List Interval) → Bool
@@ -123,11 +130,18 @@ FillsIn shape slab piece None reads = ⊥
 FillsIn shape slab piece (Some area) reads =
     (c : List ℤ) → IsIn piece.positions c → IsIn area c × HaveSources piece (Some area) reads (cell_sources shape slab c)
 
--- each cell that the task sets lies in the area of the patch that is written, and each source of a fill in that of its own
+-- there is an area, and it has each cell of the box
+abbrev pub HasAll : Option (List Interval) → List Interval → Type 0
+HasAll None box = ⊥
+HasAll (Some area) box = (c : List ℤ) → IsIn box c → IsIn area c
+
+-- each cell that the task sets lies in the area of the patch that is written, each source of a fill in that of its own, and each cell
+-- that is copied in that of the patch that is read
 abbrev pub SetsIn : Task → Pieced → Option (List Interval) → List (List Interval) → Type 0
 SetsIn (Assign target) piece written reads = HasCells written target piece.positions
 SetsIn (Reduce reduction) piece written reads = Unit {0}
 SetsIn (Fill shape slab array) piece written reads = FillsIn (shape_of shape) slab piece written reads
+SetsIn (Guard array) piece written reads = HasAll written piece.positions × HasAll (lent_for piece written reads (copied_from piece)) piece.positions
 
 -- what the test of fit says
 pub record IsFitting (piece : Pieced) (written : Option (List Interval)) (reads : List (List Interval)) : Type 0 where

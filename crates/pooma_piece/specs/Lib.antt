@@ -3,6 +3,7 @@ pub mod Pieces
 pub mod Lent
 pub mod Sources
 pub mod Kept
+pub mod Copies
 pub mod Fills
 pub mod Effects
 pub mod Meaning

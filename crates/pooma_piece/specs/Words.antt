@@ -9,7 +9,7 @@ use Rattle.pooma_field.specs.declared.updaters.Updater.TheVariants.{Constant, Pe
 use Rattle.pooma_field.specs.Numbered.{Numbered}
 use Rattle.pooma_expr.specs.Words.{IsWord, literals_fit}
 use Rattle.pooma_piece.specs.declared.task.Task.{Task}
-use Rattle.pooma_piece.specs.declared.task.Task.TheVariants.{Assign, Reduce, Fill}
+use Rattle.pooma_piece.specs.declared.task.Task.TheVariants.{Assign, Reduce, Fill, Guard}
 use Rattle.pooma_piece.specs.Pieces.{Pieced}
 
 -- each number of the objects is one
@@ -35,7 +35,8 @@ abbrev pub TaskMakesWords : Task → Pieced → Type 0
 TaskMakesWords (Assign target) piece = All IsAxis piece.positions × IsTrue (literals_fit piece.code)
 TaskMakesWords (Reduce reduction) piece = Unit {0}
 TaskMakesWords (Fill shape slab array) piece = GivesWord slab.updater
+TaskMakesWords (Guard array) piece = Unit {0}
 
--- The piece sets cells to such numbers, where those that it reads are such: its literals are, or its updater's constant is.
+-- The piece sets cells to such numbers, where those that it reads are such: its literals are, or its updater's constant is; a guard copy sets no others.
 abbrev pub MakesWords : Pieced → Type 0
 MakesWords piece = TaskMakesWords piece.task piece

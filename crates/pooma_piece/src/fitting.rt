@@ -9,7 +9,7 @@ ghost use Rattle.pooma_view.specs.Views.{Viewed};
 ghost use Rattle.pooma_expr.specs.Trees.{views_of};
 ghost use Rattle.pooma_machine.specs.Slots.{contents};
 ghost use Rattle.pooma_piece.specs.Kept.{sources_of};
-ghost use Rattle.pooma_piece.specs.Lent.{fits, has_all, has_cells, has_one, have_sources, is_in, lent_for, read_in};
+ghost use Rattle.pooma_piece.specs.Lent.{fits, has_all, has_cells, has_one, have_sources, is_in, lent_for, read_in, task_fits};
 ghost use Rattle.pooma_piece.specs.Meaning.{area_of, content_of};
 ghost use Rattle.pooma_piece.specs.Pieces.{HasPositions};
 ghost use Rattle.pooma_piece.specs.Sources.{from_source};
@@ -174,6 +174,18 @@ fn all_have_sources(
     true
 }
 
+// Whether the patch that is written has each cell of a guard copy, and so has the one that is read.
+fn has_copied(piece: &Piece, array: u32, write: Option<&Patch>, reads: &[Arc<Patch>]) -> bool
+    requires task { piece.now.task ≡ Task.Guard array }
+    ensures { result ≡ task_fits (Task.Guard array) piece.now (option_map area_of (option_map content_of (option_copied write.entry))) (map area_of (contents content_of reads.now)) }
+{
+    // For what it promises: there is one object to read.
+    let _code = piece.code();
+    let cells = piece.positions();
+    has_all(area_at(Source::Written, write, reads), &cells)
+        && has_all(area_at(source_at(piece, 0), write, reads), &cells)
+}
+
 impl Piece {
     /// Whether the piece fits the patches that are lent to it, in the order of its requests: whether each cell that it reads
     /// or sets lies in the area of the patch in which it does. `run_piece` asks for that. The test looks at each of these cells.
@@ -195,6 +207,7 @@ impl Piece {
                 has_all(area_at(Source::Written, write, reads), &self.positions())
                     && all_have_sources(self, &shape, &slab, array, write, reads)
             }
+            Task::Guard { array } => has_copied(self, array, write, reads),
         }
     }
 }

@@ -2,6 +2,7 @@
 #![tactic(auto)]
 
 mod block;
+mod copy;
 mod fill;
 mod fitting;
 mod laws;

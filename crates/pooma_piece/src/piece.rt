@@ -52,7 +52,8 @@ impl Model for Piece {
 impl Piece {
     /// The piece of the executed statement of this number, counted from 0, at these positions of the statement, with the
     /// value that the code has there. `write` is the object in whose patch the task sets cells; `reads` names for each view of
-    /// the code, in order, the object in whose patch it is read, and of a fill those in which its sources are. That the cells lie
+    /// the code, in order, the object in whose patch it is read, of a fill those in which its sources are, and of a guard copy
+    /// the one that owns the cells. That the cells lie
     /// in those patches is no condition here: `fits` tests it, and `run_piece` asks for it. The only error is want of memory.
     pub fn new(
         alloc: Global,

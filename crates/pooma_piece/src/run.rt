@@ -8,6 +8,7 @@ ghost use Rattle.pooma_piece.specs.Effects.{answer_by, content_by};
 ghost use Rattle.pooma_piece.specs.Lent.{fits};
 ghost use Rattle.pooma_piece.specs.Meaning.{area_of, content_of, pieces};
 
+use crate::copy::copy;
 use crate::fill::fill;
 use crate::lent::value_at;
 use crate::outcome::Outcome;
@@ -88,6 +89,7 @@ pub(crate) fn write_with(piece: &Piece, patch: &mut Patch, reads: &[Arc<Patch>])
         Task::Assign { target } => assign(piece, &target, patch, reads),
         Task::Reduce { reduction } => reduce(piece, reduction, Some(&*patch), reads),
         Task::Fill { shape, slab, array } => fill(piece, &shape, &slab, array, patch, reads),
+        Task::Guard { array } => copy(piece, array, patch, reads),
     }
 }
 
@@ -99,13 +101,15 @@ pub(crate) fn read_with(piece: &Piece, reads: &[Arc<Patch>]) -> Outcome
     match *piece.task() {
         Task::Assign { target: _ } => unreachable!(),
         Task::Fill { .. } => unreachable!(),
+        Task::Guard { array: _ } => unreachable!(),
         Task::Reduce { reduction } => reduce(piece, reduction, None, reads),
     }
 }
 
 /// Does a piece on the patches of its objects, which are lent in the order of its requests: the one that it writes, which is
 /// not kept as one, and those that it reads. The piece fits their areas. It goes through the positions in order, up to the
-/// first whose value is a fault, and does what is to be done at those before it; a fill has no fault. It takes no memory.
+/// first whose value is a fault, and does what is to be done at those before it; a fill or a guard copy has no
+/// fault. It takes no memory.
 pub fn run_piece(piece: &Piece, write: Option<&mut Patch>, reads: &[Arc<Patch>]) -> Outcome
     requires fits { FitsLent pieces piece.now (contents_of content_of (option_copied_mut write) reads.now) }
     requires writable { IfSome (option_copied_mut write) (λ patch. patch.one ≡ false) }

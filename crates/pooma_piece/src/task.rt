@@ -22,4 +22,10 @@ pub enum Task {
         slab: Slab,
         array: u32,
     },
+    /// Copies guard cells of the array of this number: its positions are cells that the patch which is written allocates and
+    /// the one patch that is read owns, and each gets the number that it has there. They are patches of two objects; the
+    /// piece's code has no views.
+    Guard {
+        array: u32,
+    },
 }

@@ -22,6 +22,7 @@ use Rattle.pooma_piece.specs.declared.outcome.Outcome.{Outcome}
 use Rattle.pooma_piece.specs.declared.task.Task.{Task}
 use Rattle.pooma_piece.specs.declared.task.Task.TheVariants as task
 use Rattle.pooma_piece.specs.Effects.{before_fault, changes_over, content_by, value_at}
+use Rattle.pooma_piece.specs.Copies.{copy_change}
 use Rattle.pooma_piece.specs.Fills.{fill_change}
 use Rattle.pooma_piece.specs.Meaning.{pieces}
 use Rattle.pooma_piece.specs.Pieces.{Pieced, requests_of}
@@ -69,6 +70,7 @@ content_keeps laws (task.Assign target) piece old reads =
 content_keeps laws (task.Reduce reduction) piece old reads = (refl, λ h. h)
 content_keeps laws (task.Fill shape slab array) piece old reads =
     changes_keep laws old (map (fill_change (shape_of shape) slab piece (Some old) reads) (cells_of piece.positions))
+content_keeps laws (task.Guard array) piece old reads = changes_keep laws old (map (copy_change piece (Some old) reads) (cells_of piece.positions))
 
 -- another content in the place of one that is there
 set_keeps : (layouts : List (List CutAxis)) (objects : List Numbered) (k : ℕ) (old new : Numbered) → slice_get objects k ≡ Some old → KeepsForm old new

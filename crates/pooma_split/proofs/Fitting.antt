@@ -41,6 +41,7 @@ pub listed : (t : Task) (views : List Viewed) (k : ℕ) (view : Viewed) → slic
 listed (task.Assign target) views k view at = (suc k, omega (arith, slice_get_within views k view at), get_or_from_slice_get views k view view at)
 listed (task.Reduce reduction) views k view at = (k, slice_get_within views k view at, get_or_from_slice_get views k view view at)
 listed (task.Fill shape slab array) views k view at = (k, slice_get_within views k view at, get_or_from_slice_get views k view view at)
+listed (task.Guard array) views k view at = (k, slice_get_within views k view at, get_or_from_slice_get views k view view at)
 
 module _ (laws : HasLaws) (declared : Declared) (number : ℕ) (t : Task) (code : Expr) (positions : List Interval) (valid : IsBox positions) (can : CanSplit declared t code positions)
     (box : List Interval) (here : Member (parts_of declared (views_with t (views_of code)) positions) box) where
@@ -77,6 +78,7 @@ module _ (laws : HasLaws) (declared : Declared) (number : ℕ) (t : Task) (code 
   sets (task.Assign target) cut reads has_target = has_target target refl
   sets (task.Reduce reduction) cut reads has_target = tt
   sets (task.Fill shape slab array) cut reads has_target = absurd cut
+  sets (task.Guard array) cut reads has_target = absurd cut
 
   pub is_fitting : IsFitting work (lent_by (areas_of declared.layouts) (requests_of (piece_of declared number t code box))).written (lent_by (areas_of declared.layouts) (requests_of (piece_of declared number t code box))).reads
   is_fitting = record {

@@ -30,6 +30,7 @@ module _ (declared : Declared) (positions box : List Interval) (within : IsWithi
       (object_known declared positions box within target (All-head (IsPlaced declared positions) target views placed))
   written_known (task.Reduce reduction) views placed o is = cc
   written_known (task.Fill shape slab array) views placed o is = cc
+  written_known (task.Guard array) views placed o is = cc
 
   reads_known : (views : List Viewed) → All (IsPlaced declared positions) views → All (λ o. o < object_count declared.layouts) (map (object_for declared box) views)
   reads_known [] placed = All-nil (λ o. o < object_count declared.layouts)

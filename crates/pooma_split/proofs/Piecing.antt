@@ -73,6 +73,7 @@ pub reads_placed : (P : Viewed → Type 0) (t : Task) (views : List Viewed) → 
 reads_placed P (task.Assign target) views all = All-tail P target views all
 reads_placed P (task.Reduce reduction) views all = all
 reads_placed P (task.Fill shape slab array) views all = all
+reads_placed P (task.Guard array) views all = all
 
 module _ (declared : Declared) (positions box : List Interval) (within : IsWithin box positions) where
   pub has_positions : (view : Viewed) → IsPlaced declared positions view → HasPositions box view
@@ -106,16 +107,19 @@ module _ (declared : Declared) (positions box : List Interval) (within : IsWithi
   own (task.Assign target) views cut placed = has_positions target (All-head (IsPlaced declared positions) target views placed)
   own (task.Reduce reduction) views cut placed = tt
   own (task.Fill shape slab array) views cut placed = absurd cut
+  own (task.Guard array) views cut placed = absurd cut
 
   writes : (t : Task) → IsCut t → is_some (written_for declared box t) ≡ sets_cells t
   writes (task.Assign target) cut = refl
   writes (task.Reduce reduction) cut = refl
   writes (task.Fill shape slab array) cut = absurd cut
+  writes (task.Guard array) cut = absurd cut
 
   are_reads : (t : Task) (code : Expr) → IsCut t → AreReads t code (map (object_for declared box) (views_of code))
   are_reads (task.Assign target) code cut = length-map (views_of code) (object_for declared box)
   are_reads (task.Reduce reduction) code cut = length-map (views_of code) (object_for declared box)
   are_reads (task.Fill shape slab array) code cut = absurd cut
+  are_reads (task.Guard array) code cut = absurd cut
 
   pub read_at : (views : List Viewed) (k : ℕ) (view : Viewed) → slice_get views k ≡ Some view → slice_get (map (object_for declared box) views) k ≡ Some (object_for declared box view)
   read_at views k view at = slice_get-map (object_for declared box) views k ∙ ap (option_map (object_for declared box)) at
@@ -130,6 +134,7 @@ module _ (declared : Declared) (positions box : List Interval) (within : IsWithi
       same_array view target there (All-head (IsPlaced declared positions) target views placed) (same_Some _ _ (sym (read_at views k view at) ∙ is))
   of_target (task.Reduce reduction) views placed = tt
   of_target (task.Fill shape slab array) views placed = tt
+  of_target (task.Guard array) views placed = λ k d h e. cc
 
   -- what makes a piece
   pub is_piece : (number : ℕ) (t : Task) (code : Expr) → CanSplit declared t code positions → IsPiece (piece_of declared number t code box)
@@ -160,6 +165,7 @@ module _ (declared : Declared) (positions box : List Interval) (within : IsWithi
   target_asked (task.Assign target) views placed = All-cons IsAsked target [] (asked target (All-head (IsPlaced declared positions) target views placed)) (All-nil IsAsked)
   target_asked (task.Reduce reduction) views placed = All-nil IsAsked
   target_asked (task.Fill shape slab array) views placed = All-nil IsAsked
+  target_asked (task.Guard array) views placed = All-nil IsAsked
 
 -- a part, by what is known of the boxes of the code
 pub within_of : (positions box : List Interval) (boxes : List (List Interval)) → IsPartition positions boxes → Contains boxes box → IsBox box → IsBox positions → IsWithin box positions
@@ -190,8 +196,10 @@ pub target_alone : (P : Viewed → Type 0) (t : Task) (views : List Viewed) → 
 target_alone P (task.Assign target) views all = All-cons P target [] (All-head P target views all) (All-nil P)
 target_alone P (task.Reduce reduction) views all = All-nil P
 target_alone P (task.Fill shape slab array) views all = All-nil P
+target_alone P (task.Guard array) views all = All-nil P
 
 pub then_reads : {A : Type 0} (f : Viewed → A) (t : Task) (views : List Viewed) → map f (views_with t []) ++ map f views ≡ map f (views_with t views)
 then_reads f (task.Assign target) views = refl
 then_reads f (task.Reduce reduction) views = refl
 then_reads f (task.Fill shape slab array) views = refl
+then_reads f (task.Guard array) views = refl

@@ -67,6 +67,7 @@ abbrev pub IsCut : Task → Type 0
 IsCut (task.Assign target) = Unit {0}
 IsCut (task.Reduce reduction) = Unit {0}
 IsCut (task.Fill shape slab array) = ⊥
+IsCut (task.Guard array) = ⊥
 
 -- the view has these positions, and names cells of its array, which is there
 pub record IsPlaced (declared : Declared) (positions : List Interval) (view : Viewed) : Type 0 where
