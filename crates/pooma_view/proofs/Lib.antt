@@ -1,4 +1,5 @@
 pub mod Corners
+pub mod FirstAlong
 pub mod Lines
 pub mod Overlaps
 pub mod Parts

@@ -1,4 +1,4 @@
-ghost use Rattle.std.specs.Prelude.{◌≡◌, ◌<◌, ℤ, Some, List, length, ◌↔◌, ◌≤ℤ◌, IsSome, IfSome, IsSomeAnd};
+ghost use Rattle.std.specs.Prelude.{◌≡◌, ◌≢◌, ◌<◌, ℤ, pos, Some, List, length, ◌↔◌, ◌≤ℤ◌, IsSome, IfSome, IsSomeAnd};
 ghost use Rattle.pooma_domain.specs.Axes.{interval_of};
 ghost use Rattle.pooma_domain.specs.Cells.{IsAxis, IsBox};
 
@@ -17,6 +17,7 @@ pub enum Slot {
 
 impl Slot {
     ghost use Rattle.pooma_view.specs.Common.{NamesNumber};
+    ghost use Rattle.pooma_view.specs.Rows.{stride_of};
     ghost use Rattle.pooma_view.specs.Steps.{IsStriding};
     ghost use Rattle.pooma_view.specs.Slots.{places_of, with_places, coordinate, left_over, first_named, last_named, Accepts, HasPlaces, IsWithinPlaces, IsRestricted};
 
@@ -96,6 +97,17 @@ impl Slot {
         match self {
             Slot::Fixed(x) => (x, x),
             Slot::Along(numbers) => (numbers.first, numbers.at(numbers.count - 1)),
+        }
+    }
+
+    /// From each of the numbers to the next. None where the slot is fixed.
+    pub(crate) fn stride(self) -> Option<i32>
+        ensures value { result ≡ stride_of self }
+        ensures moves { IfSome result (λ stride. stride ≢ pos 0) }
+    {
+        match self {
+            Slot::Fixed(_) => None,
+            Slot::Along(numbers) => Some(numbers.stride),
         }
     }
 

@@ -1,4 +1,4 @@
-ghost use Rattle.std.specs.Prelude.{◌≡◌, ℤ, ◌≤◌, ◌<◌, Some, List, length, slice_get, map, take, [], ◌∷◌, ◌⊎◌, ◌↔◌, IsTrue, IfSome};
+ghost use Rattle.std.specs.Prelude.{◌≡◌, ◌≢◌, ℤ, pos, ◌≤◌, ◌<◌, Some, List, length, slice_get, map, take, [], ◌∷◌, ◌⊎◌, ◌↔◌, IsTrue, IfSome};
 ghost use Rattle.pooma_domain.specs.Cells.{IsBox, IsIn};
 ghost use Rattle.pooma_domain.specs.Operations.{moved};
 
@@ -77,6 +77,7 @@ impl View {
     ghost use Rattle.pooma_view.specs.Slots.{positions_of, cell_named, from_zero};
     ghost use Rattle.pooma_view.specs.Overlap.{NameApart, IsOverlap, AgreesAt, IsEnd};
     ghost use Rattle.pooma_view.specs.Restricted.{restricted};
+    ghost use Rattle.pooma_view.specs.Rows.{IsFirstAlong};
 
     /// The view of this array by one to three slots.
     pub fn new(array: u32, slots: &[Slot]) -> View
@@ -155,6 +156,25 @@ impl View {
         let after_y = self.y.left_over(&after_x);
         let z = self.z.coordinate(&after_y);
         Cell::front(self.dims, [x, y, z])
+    }
+
+    /// The first slot that goes along an axis: its number, counted from 0, and its stride. Where none does, the first slot,
+    /// which has one number at any stride.
+    pub(crate) fn first_along(&self) -> (usize, i32)
+        ensures axis { result.0 < length self.now.slots }
+        ensures stride { result.1 ≢ pos 0 }
+        ensures first { IsFirstAlong self.now.slots result.0 result.1 }
+    {
+        if let Some(stride) = self.x.stride() {
+            return (0, stride);
+        }
+        if let Some(stride) = self.y.stride() {
+            return (1, stride);
+        }
+        if let Some(stride) = self.z.stride() {
+            return (2, stride);
+        }
+        (0, 1)
     }
 
     /// The one position that names the cell. None where no position does.
