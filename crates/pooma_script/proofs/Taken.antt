@@ -10,7 +10,7 @@ use Rattle.std.specs.List.{filter_map}
 use Rattle.std.specs.Prelude.{◌↔◌, All, map}
 use Rattle.pooma_domain.specs.Cells.{Interval, IsIn, IsOrdered}
 use Rattle.pooma_domain.specs.declared.strides.Strided.{Strided}
-use Rattle.pooma_view.specs.Slots.{cell_named, first_named, last_named, positions_of, with_places}
+use Rattle.pooma_view.specs.Slots.{cell_named, coordinate, first_named, last_named, positions_of, with_places}
 use Rattle.pooma_view.specs.declared.slots.Slot.{Slot}
 use Rattle.pooma_view.specs.declared.slots.Slot.TheVariants.{Fixed, Along}
 use Rattle.pooma_parse.specs.declared.form.RawSub.{RawSub}
@@ -46,6 +46,13 @@ range_is_strided first last (negsuc m) f g some =
     let h = (numbers_of_range first last (negsuc m) (n - 1)).0 (omega arith) in
     let down : last ≤ℤ (first +ℤ negsuc m *ℤ pos (n - 1)) = h.1.1 (omega (arith, ints)) in
     (h.0, some, omega (arith, ints, f, g, down, down_by m (n - 1)))
+
+-- the number at a place of what a range takes
+pub number_taken : (first last stride : ℤ) (k : ℕ) → FitsSigned w32 first → FitsSigned w32 last → k < count_to first last stride
+    → coordinate (slot_of (Range first last stride)) (pos k ∷ []) ≡ first +ℤ stride *ℤ pos k
+number_taken first last stride k f g below =
+    ap (λ slot. coordinate slot (pos k ∷ []))
+    (along_is first stride (count_to first last stride) (range_is_strided first last stride f g (omega (arith, below))))
 
 -- where each range has a number, the places of the slots are those of the ranges
 pub positions_of_subs : (subs : List RawSub) → All IsShort subs → All IsOrdered (filter_map places_of subs)

@@ -26,4 +26,4 @@ pub mod stencil;
 pub mod view;
 
 pub use cause::{Cause, CheckError, LimitName, Refusal};
-pub use law::{one_script, some_script};
+pub use law::{numbers_of_ranges, one_script, some_script};
