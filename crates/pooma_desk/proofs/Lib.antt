@@ -11,3 +11,4 @@ pub mod Lending
 pub mod Crosses
 pub mod Readying
 pub mod Several
+pub mod Handing

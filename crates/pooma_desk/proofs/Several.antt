@@ -7,13 +7,13 @@ use Rattle.atomic_table.specs.Table.{Me}
 use Rattle.atomic_table.specs.Seated.{TableId}
 use Rattle.pooma_machine.specs.declared.step.EventKind.{EventKind}
 use Rattle.pooma_machine.specs.Steps.{event_of}
-use Rattle.pooma_machine.specs.Values.{Account}
+use Rattle.pooma_machine.specs.Values.{Account, Loaned}
 use Rattle.pooma_desk.specs.declared.sight.Noted.{Noted}
 use Rattle.pooma_desk.specs.Sight.{Sight}
 use Rattle.pooma_desk.specs.Seen.{events_of, works_of, plan_after, history_after, is_one_of, calls_under}
 use Rattle.pooma_desk.specs.Rule.{first_of}
 use Rattle.pooma_desk.specs.Steps.{noting, noting_all}
-use Rattle.pooma_desk.specs.Tokens.{Token, Looks, AddsAll, RequestsAll, plan_of, token_of, called, requested, all_called, all_requested}
+use Rattle.pooma_desk.specs.Tokens.{Token, Looks, AddsAll, RequestsAll, own_calls, plan_of, token_of, called, requested, all_called, all_requested, entries_of}
 use Rattle.pooma_desk.specs.Turns.{IsPlaced}
 use Rattle.pooma_desk.proofs.Calls.{own_first}
 use Rattle.pooma_desk.proofs.Turning.{whole_row}
@@ -65,6 +65,17 @@ module _ {W V : Type 0} where
       let grown : ns ++ requested entry at work ∷ [] ≡ all_requested first seat (asked ++ work ∷ []) = ap (λ k. ns ++ requested k at work ∷ []) last ∙ (ap (λ s. ns ++ requested (first + length asked) s work ∷ []) here ∙ sym (requested_more first seat asked work)) in
       noted_more old me new ns (requested entry at work) is then ∙ ap (λ l. (noting_all old.0 l, old.1)) grown
 
+  pub called_step : (old me new : Me (Option (Account W V)) (Sight W V)) (act : EventKind) (seat at j : ℕ) (loans : List (Loaned W V)) (loan : Loaned W V) → me ≡ (noting_all old.0 (all_called act seat (entries_of loans)), old.1) → new ≡ (noting me.0 (called act j at), me.1)
+      → loan.entry ≡ j → at ≡ seat → new ≡ (noting_all old.0 (all_called act seat (entries_of (loans ++ loan ∷ []))), old.1)
+  called_step old me new act seat at j loans loan is then entry here =
+      let ns : List (Noted W) = all_called act seat (entries_of loans) in
+      let grown : ns ++ called act j at ∷ [] ≡ all_called act seat (entries_of (loans ++ loan ∷ [])) =
+      ap (λ k. ns ++ called act k at ∷ []) (sym entry)
+      ∙ (ap (λ s. ns ++ called act loan.entry s ∷ []) here
+      ∙ (sym (map-append (λ k. called act k seat) (entries_of loans) (loan.entry ∷ []))
+      ∙ ap (all_called act seat) (sym (map-append (λ (l : Loaned W V). l.entry) loans (loan ∷ []))))) in
+      noted_more old me new ns (called act j at) is then ∙ ap (λ l. (noting_all old.0 l, old.1)) grown
+
   -- a pass with several events more
   pub adds_all_at : (desk : TableId) (pass result : Token W V) (v : Sight W V) (seat next : ℕ) (ns : List (Noted W)) (me : Me (Option (Account W V)) (Sight W V)) (out : List (ℕ × Option (Account W V))) → IsPlaced v seat next
       → ((seats : List ℕ) → is_one_of seats seat ≡ true → calls_under seats ns ≡ ns)
@@ -77,6 +88,20 @@ module _ {W V : Type 0} where
         between = h.more;
         seen = ap (λ l. l ++ ns) h.seen;
         own = filter-append (λ (m : Noted W). is_one_of row m.event.seat) v.seen ns ∙ (ap (λ l. calls_under row v.seen ++ l) (mine row own) ∙ ap (λ l. l ++ ns) h.own);
+      })
+
+  -- and with several more behind these
+  pub adds_more_at : (desk : TableId) (pass result : Token W V) (v : Sight W V) (seat next : ℕ) (ns ms : List (Noted W)) (me : Me (Option (Account W V)) (Sight W V)) (out : List (ℕ × Option (Account W V))) → IsPlaced v seat next
+      → ((seats : List ℕ) → is_one_of seats seat ≡ true → calls_under seats ms ≡ ms)
+      → AddsAll pass (token_of desk v) ns → me ≡ (noting_all v ms, out) → result ≡ token_of desk me.0 → AddsAll pass result (ns ++ ms)
+  adds_more_at desk pass result v seat next ns ms me out p mine h noted is =
+      let row : List ℕ = first_of v.seats ∷ drop 1 v.seats in
+      let own : is_one_of row seat ≡ true = subst (λ xs. is_one_of xs seat ≡ true) (sym (whole_row v.seats seat p.own)) (own_first v seat next p) in
+      subst (λ t. AddsAll pass t (ns ++ ms)) (sym (is ∙ ap (λ (m : Me (Option (Account W V)) (Sight W V)). token_of desk m.0) noted)) (record {
+        same = record { from = h.same.from; seat = h.same.seat; joined = h.same.joined; shares = h.same.shares; left = h.same.left };
+        between = h.between;
+        seen = ap (λ l. l ++ ms) h.seen ∙ append_assoc (pass.seen ++ h.between) ns ms;
+        own = filter-append (λ (m : Noted W). is_one_of row m.event.seat) v.seen ms ∙ (ap (λ l. calls_under row v.seen ++ l) (mine row own) ∙ (ap (λ l. l ++ ms) h.own ∙ append_assoc (own_calls pass) ns ms));
       })
 
   -- the plan after requests, and after other calls

@@ -1,5 +1,5 @@
 -- Which entries an event of a history makes ready, and which of those that are ready are dispatched.
-use Rattle.std.specs.Prelude.{◌≡◌, ◌≤◌, ◌++◌, ℕ, List, [], ◌∷◌}
+use Rattle.std.specs.Prelude.{◌≡◌, ◌≤◌, ◌++◌, ℕ, List, [], ◌∷◌, map}
 use Rattle.pooma_machine.specs.declared.step.Request.{Request}
 use Rattle.pooma_machine.specs.declared.step.Event.{Event}
 use Rattle.pooma_machine.specs.declared.step.EventKind.TheVariants as kind
@@ -29,6 +29,10 @@ pub record TellsReadied (plan : List (List Request)) (history : List Event) (eve
   pub later : List Event
   pub stands : history ≡ before ++ event ∷ later
   pub tells : TellsReady plan before (before ++ event ∷ []) woken
+
+-- the dispatches of these entries at a seat, in order
+abbrev pub dispatches_of : ℕ → List ℕ → List Event
+dispatches_of seat entries = map (λ j. event_of kind.Dispatch j seat) entries
 
 -- after this history these entries are dispatched at a seat, one after another, each of them the least from this number on that
 -- may be dispatched then

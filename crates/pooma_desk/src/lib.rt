@@ -24,11 +24,13 @@
 //! event; or a release and then a dispatch, each with a step 5 of its own. A try of step 3 that finds the turn held is made again.
 #![tactic(auto)]
 
+pub use batch::Handed;
 pub use desk::Desk;
 pub use look::Look;
 pub use pass::Pass;
 pub use request::Requested;
 
+mod batch;
 mod desk;
 mod lend;
 mod look;
