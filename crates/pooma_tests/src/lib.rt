@@ -12,6 +12,8 @@ mod drawn_stopped;
 #[cfg(test)]
 mod ends;
 #[cfg(test)]
+mod hostile;
+#[cfg(test)]
 mod io;
 #[cfg(test)]
 mod maker;
