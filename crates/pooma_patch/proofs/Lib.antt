@@ -1,1 +1,2 @@
 pub mod CopiedCells
+pub mod RowCells
