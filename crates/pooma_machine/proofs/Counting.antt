@@ -1,19 +1,16 @@
 -- What the queues count is how many pairs of an entry and an object hold an entry back.
-use Rattle.std.proofs.Common.{◌≡◌, ◌↔◌, ◌+◌, ◌-◌, ◌*◌, ◌^◌, ◌<◌, ◌≤◌, ℕ, zero, suc, Bool, true, false, not, List, [], ◌∷◌, ◌++◌, length, map, take, get_or, filter, All, AllPairs, Contains, refl, sym, ◌∙◌, ap, subst, arith, inl, inr, ◌⊎◌, length-append}
+use Rattle.std.proofs.Common.{◌≡◌, ◌↔◌, ◌+◌, ◌-◌, ◌*◌, ◌^◌, ◌<◌, ◌≤◌, ℕ, zero, suc, Bool, true, false, List, [], ◌∷◌, ◌++◌, length, map, take, get_or, filter, All, AllPairs, Contains, refl, sym, ◌∙◌, ap, subst, arith, inl, inr, length-append}
 use Rattle.std.proofs.lemmas.List.{length-map, get_or_default}
 use Rattle.std.proofs.lemmas.List.Sums.{length-filter, sum_by-cons, sum_by_more}
 use Rattle.std.proofs.lemmas.List.Elements.{Contains-append_left, Contains-append_right, Contains-append_cases}
-use Rattle.std.specs.List.{count_by, sum_by}
 use Rattle.pooma_queue.specs.declared.queue.Mode.{Mode}
 use Rattle.pooma_queue.specs.declared.queue.Asked.{Asked}
 use Rattle.pooma_queue.specs.Requests.{Waiting, IsInOrder, IsInTurn, AsksHere, conflicts, holds_back, held_back_by}
 use Rattle.pooma_machine.specs.declared.step.Request.{Request}
 use Rattle.pooma_machine.specs.declared.step.Event.{Event}
-use Rattle.pooma_machine.specs.declared.step.Status.{Status}
-use Rattle.pooma_machine.specs.declared.step.Status.TheVariants as status
-use Rattle.pooma_machine.specs.Steps.{IsRequestList, requests_of, AsksFor, ConflictOver, NothingBlocks, IsWaiting, status_of, is_released}
+use Rattle.pooma_machine.specs.Steps.{IsRequestList, requests_of, NothingBlocks, status_of, is_released}
 use Rattle.pooma_machine.specs.Counts.{Hold, Holds, IsCount}
-use Rattle.pooma_machine.specs.Kept.{IsKept, IsSound}
+use Rattle.pooma_machine.specs.Kept.{IsSound}
 use Rattle.pooma_machine.specs.Lines.{line, IsTied, counted}
 use Rattle.pooma_logic.proofs.Elements.{contains_cases, contains_first, contains_rest, contains_none, contains_map, contains_image}
 use Rattle.pooma_logic.proofs.Tested.{contains_kept, kept_passes}

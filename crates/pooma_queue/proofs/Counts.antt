@@ -1,17 +1,16 @@
 -- How many of the requests before a place hold back one of some mode.
-use Rattle.std.proofs.Common.{◌≢◌, Some, min, All, IfSome, slice_get, get_or-set_same, get_or-set_other, length-take, length-set, ◌≡◌, ◌+◌, ◌-◌, ◌<◌, ◌≤◌, ◌&&◌, ℕ, zero, suc, Bool, true, false, not, cond, nat_lt, List, [], ◌∷◌, ◌++◌, length, map, take, get_or, set, Contains, refl, sym, ◌∙◌, ap, subst, arith, inl, inr, length-append}
+use Rattle.std.proofs.Common.{Some, min, IfSome, slice_get, get_or-set_same, get_or-set_other, length-take, length-set, ◌≡◌, ◌+◌, ◌-◌, ◌<◌, ◌≤◌, ◌&&◌, ℕ, zero, suc, Bool, true, false, not, cond, nat_lt, List, [], ◌∷◌, ◌++◌, length, map, take, get_or, set, refl, sym, ◌∙◌, ap, subst, arith, inl, inr, length-append}
 use Rattle.std.proofs.lemmas.Bool.Decides.{leb_tells, eqb_tells}
 use Rattle.std.proofs.lemmas.Bool.{lt-ltb, lt-leb}
-use Rattle.std.proofs.lemmas.List.{length-map, map_push, get_or_append_left, take_all, take-append-le, get_or-take, get_or_default}
+use Rattle.std.proofs.lemmas.List.{length-map, map_push, get_or_append_left, take_all, take-append-le, get_or_default}
 use Rattle.std.proofs.lemmas.Option.{slice_get_read}
 use Rattle.std.proofs.lemmas.List.Sums.{sum_by-cons, sum_by_push, sum_by-set, count_by-le-length, count_by_more_no, count_by_more_yes, fails_before_first, passes_at_first, prefix_len_is}
 use Rattle.std.proofs.Math.Seq.{map-set_same, get_or-append_seam}
-use Rattle.std.specs.List.{count_by, position_or_len, prefix_len}
+use Rattle.std.specs.List.{count_by, prefix_len}
 use Rattle.pooma_queue.specs.declared.queue.Mode.{Mode}
 use Rattle.pooma_queue.specs.declared.queue.Mode.TheVariants.{Read, Write}
 use Rattle.pooma_queue.specs.declared.queue.Asked.{Asked}
-use Rattle.pooma_queue.specs.Requests.{holds_back, conflicts, first_holding, released, is_to_write, held_back_by, AsksHere, IsInOrder, IsInTurn, IsTally}
-use Rattle.pooma_queue.proofs.Holding.{first_within, holds_no_write}
+use Rattle.pooma_queue.specs.Requests.{holds_back, first_holding, released, is_to_write, held_back_by, AsksHere, IsInOrder, IsInTurn, IsTally}
 
 -- what an element adds to a count
 abbrev pub one_if : Bool → ℕ

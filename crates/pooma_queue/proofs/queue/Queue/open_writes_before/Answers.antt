@@ -1,7 +1,4 @@
-use Rattle.std.proofs.Common.{◌≡◌, ◌+◌, ◌∙◌, arith, take, length, get_or, sym, ap}
-use Rattle.std.specs.List.{count_by}
-use Rattle.pooma_queue.specs.declared.queue.Mode.TheVariants.{Read}
-use Rattle.pooma_queue.specs.Requests.{holds_back, first_holding}
+use Rattle.std.proofs.Common.{◌∙◌, arith, get_or, ap}
 use Rattle.pooma_queue.proofs.Counts.{no_write_before, writes_from}
 use Rattle.pooma_queue.proofs.queue.Queue.open_writes_before.Goals as goal
 
