@@ -1,5 +1,7 @@
 pub mod KeptArrays
+pub mod KeptOnes
 pub mod KeptPatches
+pub mod LaterArrays
 pub mod NewArrays
 pub mod ObjectNumbers
 pub mod OwnerNumbers

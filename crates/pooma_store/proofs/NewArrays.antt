@@ -51,7 +51,7 @@ none_but_zeros n k =
     (λ above. get_or_past (replicate n (pos 0)) k (pos 0) (omega (arith, length-replicate n (pos 0), above)))
     (cases_lt k n)
 
-zeros_of_boxes : (boxes : List (List Interval)) → AreZeros (map zeros_over boxes)
+pub zeros_of_boxes : (boxes : List (List Interval)) → AreZeros (map zeros_over boxes)
 zeros_of_boxes [] = λ k d below. absurd (omega (arith, below))
 zeros_of_boxes (box ∷ boxes) = All-append (λ object. (c : List ℤ) → number_at object c ≡ pos 0) (zeros_over box ∷ []) (map zeros_over boxes) one (zeros_of_boxes boxes)
   where

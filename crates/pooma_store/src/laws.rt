@@ -8,7 +8,7 @@ ghost use Rattle.pooma_field.specs.Numbered.{Numbered, Change, with_changes, IsF
 ghost use Rattle.pooma_field.specs.Shapes.{Shaped};
 ghost use Rattle.pooma_field.specs.Worlds.{World, array_of, changed, opening_world, HasCell};
 ghost use Rattle.pooma_layout.specs.Axes.{CutAxis};
-ghost use Rattle.pooma_layout.specs.Patches.{allocated_boxes, Owns, IsLayout};
+ghost use Rattle.pooma_layout.specs.Patches.{allocated_boxes, total_of, Owns, IsLayout};
 ghost use Rattle.pooma_patch.specs.Patched.{Patched};
 ghost use Rattle.pooma_store.specs.Gathered.{HasLaws};
 ghost use Rattle.pooma_store.specs.Numbering.{layout_at, object_count, object_of, areas_of, object_at, changed_at, new_patches, new_objects, AreObjects, EachCell, HasPatch};
@@ -94,8 +94,8 @@ pub fn patches_in_place()
         → map (λ object. object.area) (contents_of (slice_set patches k new)) ≡ map (λ object. object.area) (contents_of patches) }
 {}
 
-/// New arrays, as a law for proofs: they read 0 everywhere, so they stand for the opening world, and are guarded. An array
-/// more leaves the numbers of the others.
+/// New arrays, as a law for proofs: they read 0 everywhere, so they stand for the opening world, and are guarded. So does and is
+/// an array that is declared behind others, whatever those have by then, and it leaves their numbers.
 pub fn new_arrays()
     ensures objects { (layouts : List (List CutAxis)) → AreObjects layouts (new_objects layouts) }
     ensures zeros { (layouts : List (List CutAxis)) (array : ℕ) (c : List ℤ) → IsLayout (layout_at layouts array)
@@ -107,6 +107,11 @@ pub fn new_arrays()
         → new_objects (layouts ++ layout ∷ []) ≡ new_objects layouts ++ new_patches layout }
     ensures kept { (layouts : List (List CutAxis)) (objects : List Numbered) (layout : List CutAxis) (array : ℕ) (c : List ℤ) (n : ℤ)
         → OwnerHas layouts objects array c n → OwnerHas (layouts ++ layout ∷ []) (objects ++ new_patches layout) array c n }
+    ensures zeros_later { (layouts : List (List CutAxis)) (objects : List Numbered) (layout : List CutAxis) (c : List ℤ) → AreObjects layouts objects
+        → IsLayout layout → IsIn (total_of layout) c
+        → OwnerHas (layouts ++ layout ∷ []) (objects ++ new_patches layout) (length layouts) c (pos 0) }
+    ensures guarded_later { (layouts : List (List CutAxis)) (objects : List Numbered) (layout : List CutAxis) → AreObjects layouts objects
+        → IsGuarded (layouts ++ layout ∷ []) (objects ++ new_patches layout) (length layouts) }
 {
     gathered();
 }

@@ -7,7 +7,7 @@ ghost use Rattle.pooma_field.specs.ShapeOf.{shape_of};
 ghost use Rattle.pooma_field.specs.Worlds.{World, number_of, HasCell};
 ghost use Rattle.pooma_store.specs.Numbering.{layout_at, object_count, object_of, patch_count, areas_of, new_patches, AreObjects};
 ghost use Rattle.pooma_store.specs.Standing.{HasTotal, OwnerHas, StandsFor, shape_at};
-ghost use Rattle.pooma_store.specs.Stored.{contents_of, Fits, IsStore};
+ghost use Rattle.pooma_store.specs.Stored.{contents_of, ones_of, AreKept, Fits, IsKept, IsStore};
 
 use crate::arrays::Arrays;
 use crate::laws::numbers_of_owners;
@@ -139,6 +139,7 @@ impl Store {
         ensures valid { AreObjects self.old.layouts (contents_of result.items) }
         ensures shapes { self.new.shapes ≡ self.old.shapes }
         ensures layouts { self.new.layouts ≡ self.old.layouts }
+        ensures away { self.new.objects ≡ [] }
         ensures lent { self.new.lent ≡ true }
     {
         self.lent = true;
@@ -147,7 +148,8 @@ impl Store {
     }
 
     /// Takes patches back, by object number: over the same boxes, with whatever numbers they have by now. No cell is copied.
-    /// Each patch that has no other owner is kept as one number from here on if all of its numbers are equal.
+    /// Each patch that has no other owner is kept as one number from here on exactly if all of its numbers are equal; another
+    /// one stays as it came.
     pub fn settle(&mut self, mut patches: Vec<Arc<Patch>>)
         requires lent { self.old.lent ≡ true }
         requires areas { map (λ object. object.area) (contents_of patches.items) ≡ areas_of self.old.layouts }
@@ -212,6 +214,7 @@ fn append(patches: &mut Vec<Arc<Patch>>, more: Vec<Arc<Patch>>)
 fn compress_all(patches: &mut [Arc<Patch>])
     ensures contents { contents_of patches.new ≡ contents_of patches.old }
     ensures full { All IsFull (contents_of patches.new) }
+    ensures ones { AreKept patches.old (ones_of patches.new) }
 {
     for patch in patches.iter_mut() {
         compress_if_alone(patch);
@@ -222,6 +225,7 @@ fn compress_all(patches: &mut [Arc<Patch>])
 fn compress_if_alone(patch: &mut Arc<Patch>)
     ensures content { (arc_value patch.new).content ≡ (arc_value patch.old).content }
     ensures full { IsFull (arc_value patch.new).content }
+    ensures one { IsKept (arc_value patch.old) (arc_value patch.new).one }
 {
     // For what it promises: there is a number for each cell.
     let _area = patch.area();
