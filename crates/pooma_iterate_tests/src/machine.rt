@@ -201,6 +201,31 @@ fn the_first_write_holds_back_all_others(rt: HostRuntime) {
     assert!(rt; before_and_behind_a_write(rt.alloc()) == Some((Some(held), true)));
 }
 
+// What each of the four entries counts.
+fn counts(machine: &Machine<Small>) -> [u64; 4]
+    requires { length machine.now.plan ≡ 4 }
+{
+    [
+        machine.count(0),
+        machine.count(1),
+        machine.count(2),
+        machine.count(3),
+    ]
+}
+
+// What the entries of one object count before and behind the release of the first write.
+fn counts_around_a_write(alloc: Global) -> Option<[[u64; 4]; 2]> {
+    let (mut machine, _) = asked(alloc)?;
+    let before = counts(&machine);
+    run(alloc, &mut machine, 0)?;
+    Some([before, counts(&machine)])
+}
+
+#[test]
+fn a_read_counts_writes_and_a_write_counts_all(rt: HostRuntime) {
+    assert!(rt; counts_around_a_write(rt.alloc()) == Some([[0, 1, 1, 3], [0, 0, 0, 2]]));
+}
+
 // A machine of two objects, of which entries ask to write the first, the second and the first; and their numbers.
 fn asked_over_two(alloc: Global) -> Option<(Machine<Small>, [u32; 3])>
     ensures plan { IfSome result (λ asked. length asked.0.plan ≡ 3) }
