@@ -1,8 +1,19 @@
 //! Runs of scripts: what is asked of the picker, and what is told of the windows.
 
+ghost use Rattle.std.specs.Prelude.{◌≡◌, ◌≤◌, ℕ, ℤ, List, Some, Contains, IfOk, map, slice_get};
+ghost use Rattle.pooma_machine.specs.declared.journal.Entry.{Entry};
+ghost use Rattle.pooma_machine.specs.Told.{Window};
+ghost use Rattle.pooma_model.specs.declared.statement.Statement.{Statement};
+ghost use Rattle.pooma_run.specs.Served.{entries_in};
+ghost use Rattle.pooma_split.specs.Serving.{IsPositionOf, Serve};
+
 use pooma_check::check;
 use pooma_machine::{EventKind, ListJournal};
-use pooma_run::{First, ListPicker, Picker, run_one};
+use pooma_model::Program;
+use pooma_run::{
+    First, ListPicker, Picker, program_is_sound, run_one, told_windows_are_first,
+    windows_serve_positions,
+};
 use std::alloc::{AllocError, Global};
 
 // Runs a script. Whether it is a program that writes this text and ends without a fault.
@@ -109,4 +120,34 @@ fn statement_is(journal: &ListJournal, statement: u32) -> bool {
 #[test]
 fn one_window_of_one_entry(rt: HostRuntime) {
     assert!(rt; one_entry(rt.alloc()) == Ok(true));
+}
+
+// Runs a program, and keeps its windows. What is promised of them is concluded from public clauses alone: each position of each
+// statement, up to that of the last entry, is served by an entry of its statement.
+fn run_serving(alloc: Global, program: &Program) -> Result<ListJournal, AllocError>
+    ensures { IfOk result (λ told. (last : Entry) (number : ℕ) (s : Statement) (p : List ℤ)
+        → Contains (entries_in (map (λ (window : Window). window.entries) told)) last → number ≤ last.statement
+        → slice_get program.now.order number ≡ Some s → IsPositionOf s.action p
+        → (entry : Entry) × Contains (entries_in (map (λ (window : Window). window.entries) told)) entry × (entry.statement ≡ number)
+        × Serve program.now.declared s.action p entry.requests) }
+{
+    program_is_sound(program);
+    told_windows_are_first();
+    windows_serve_positions();
+    let mut journal = ListJournal::new(alloc);
+    let _ended = run_one(alloc, program, &mut First, &mut journal)?;
+    Ok(journal)
+}
+
+fn serves(alloc: Global, script: &[u8], entries: usize) -> Result<bool, AllocError> {
+    let Ok(program) = check(alloc, script) else {
+        return Ok(false);
+    };
+    let journal = run_serving(alloc, &program)?;
+    Ok(journal.windows() == 1 && journal.entries(0).len() == entries)
+}
+
+#[test]
+fn each_position_served_by_what_was_told(rt: HostRuntime) {
+    assert!(rt; serves(rt.alloc(), SHIFTED, 4) == Ok(true));
 }
