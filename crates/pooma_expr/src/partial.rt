@@ -9,8 +9,8 @@ use std::marker::Model;
 /// Stands for a list of at most 2^23 numbers of a reduction. What is kept of the list doesn't grow with it.
 ///
 /// The calls speak of every list that a partial stands for: `start` of none, `push` and `merge` of those that went in, in
-/// their order.
-#[derive(Clone, Copy, Debug, PartialEq, Eq)]
+/// their order. Two are not compared: the same numbers, merged in another order, may be kept in another way.
+#[derive(Clone, Copy, Debug)]
 pub struct Partial {
     reduction: Reduction,
     total: Total,
@@ -79,6 +79,18 @@ impl Partial {
     {
         let one = Partial::of_one(self.reduction, v);
         self.merge(one);
+    }
+
+    /// Puts the numbers of a row at the end, as if each were pushed in turn. It takes no memory.
+    pub fn push_row(&mut self, values: &[i64])
+        requires { self.old.total.count + length values.now ≤ 2 ^ 23 }
+        ensures reduction { self.new.reduction ≡ self.old.reduction }
+        ensures count { self.new.total.count ≡ self.old.total.count + length values.now }
+        ensures numbers { (xs : List ℤ) → StandsFor xs self.old → StandsFor (xs ++ values.now) self.new }
+    {
+        for v in values {
+            self.push(*v);
+        }
     }
 
     /// Puts the numbers of another partial of the reduction at the end.
