@@ -226,6 +226,102 @@ fn a_read_counts_writes_and_a_write_counts_all(rt: HostRuntime) {
     assert!(rt; counts_around_a_write(rt.alloc()) == Some([[0, 1, 1, 3], [0, 0, 0, 2]]));
 }
 
+// A work over two numbers that reads the one and adds one to the other: reads the first and writes the second, or back.
+#[derive(Drop)]
+struct Taking {
+    back: bool,
+}
+
+const FORTH: &[Request] = &[
+    Request {
+        object: 0,
+        mode: Mode::Read,
+    },
+    Request {
+        object: 1,
+        mode: Mode::Write,
+    },
+];
+
+const BACK: &[Request] = &[
+    Request {
+        object: 0,
+        mode: Mode::Write,
+    },
+    Request {
+        object: 1,
+        mode: Mode::Read,
+    },
+];
+
+impl Work for Taking {
+    type Value = u64;
+
+    type Outcome = ();
+
+    type Content = u64;
+
+    type Shape = ();
+
+    ghost use Rattle.std.specs.Prelude.{◌+◌, ◌%◌, ◌^◌, ◌∷◌, [], true, if◌then◌else◌};
+    ghost use Rattle.pooma_queue.specs.declared.queue.Mode.TheVariants.{Read, Write};
+
+    ghost content = { λ v. v };
+
+    ghost ready = { λ v. true };
+
+    ghost meaning = { record { statement = λ w. 0; requests = λ w. if w.back then (record { object = 0; mode = Write }) ∷ (record { object = 1; mode = Read }) ∷ [] else (record { object = 0; mode = Read }) ∷ (record { object = 1; mode = Write }) ∷ []; new_value = λ w v rs. (v + 1) % 2 ^ 64; outcome = λ w v rs. tt; shape = λ v. tt; fits = λ w s rs. true } };
+
+    fn requests(&self) -> &[Request] {
+        if self.back { BACK } else { FORTH }
+    }
+
+    fn statement(&self) -> u32 {
+        0
+    }
+
+    fn perform(&self, write: Option<&mut u64>, _reads: &[Arc<u64>]) {
+        if let Some(value) = write {
+            *value = value.wrapping_add(1);
+        }
+    }
+
+    fn copied(_alloc: Global, value: &u64) -> Result<u64, AllocError> {
+        Ok(*value)
+    }
+
+    fn prepared(_alloc: Global, _value: &mut u64) -> Result<(), AllocError> {
+        Ok(())
+    }
+}
+
+// Requests an entry over both objects.
+fn take(alloc: Global, machine: &mut Machine<Taking>, back: bool) -> Option<u32>
+    requires both { length machine.old.opening ≡ 2 }
+    requires few { length machine.old.plan < 100 }
+    ensures plan { IfSome result (λ entry. length machine.new.plan ≡ length machine.old.plan + 1) }
+    ensures opening { machine.new.opening ≡ machine.old.opening }
+{
+    let work = Arc::new(alloc, Taking { back }).ok()?;
+    machine.request(alloc, 0, work).ok()
+}
+
+// What an entry counts that writes the object that the one before it reads, and reads the one that it writes.
+fn count_over_two(alloc: Global) -> Option<u64> {
+    let mut values = Vec::new(alloc);
+    values.push(Arc::new(alloc, 0u64).ok()?).ok()?;
+    values.push(Arc::new(alloc, 0u64).ok()?).ok()?;
+    let mut machine = Machine::new(alloc, values).ok()?;
+    take(alloc, &mut machine, false)?;
+    take(alloc, &mut machine, true)?;
+    Some(machine.count(1))
+}
+
+#[test]
+fn an_entry_counts_each_object_of_a_conflict(rt: HostRuntime) {
+    assert!(rt; count_over_two(rt.alloc()) == Some(2));
+}
+
 // A machine of two objects, of which entries ask to write the first, the second and the first; and their numbers.
 fn asked_over_two(alloc: Global) -> Option<(Machine<Small>, [u32; 3])>
     ensures plan { IfSome result (λ asked. length asked.0.plan ≡ 3) }
