@@ -1,4 +1,4 @@
-//! What the calls on numbers, boxes, views, expressions, stencils, fields, layouts, patches, stores and programs answer: worked examples and
+//! What the calls on numbers, boxes, views, expressions, stencils, fields, rows, layouts, patches, stores and programs answer: worked examples and
 //! tables, one file for each crate under test.
 #![tactic(auto)]
 
@@ -10,6 +10,8 @@ mod domain;
 mod expr;
 #[cfg(test)]
 mod field;
+#[cfg(test)]
+mod lanes;
 #[cfg(test)]
 mod layout;
 #[cfg(test)]

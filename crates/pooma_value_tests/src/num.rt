@@ -55,3 +55,13 @@ fn a_total_passes_64_bits_on_its_way(rt: HostRuntime) {
     total.merge(other);
     assert!(rt; (total.finish(), total.count()) == (Ok(MOST), 4));
 }
+
+#[test]
+fn a_row_is_added_by_its_sum(rt: HostRuntime) {
+    let mut total = Total::new();
+    total.push(-1);
+    total.add_row(2 * i128::from(MOST), 2);
+    assert!(rt; (total.finish(), total.count()) == (Err(Overflow), 3));
+    total.add_row(i128::from(LEAST), 1);
+    assert!(rt; (total.finish(), total.count()) == (Ok(MOST - 2), 4));
+}
