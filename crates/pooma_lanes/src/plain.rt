@@ -1,6 +1,6 @@
 //! What is done place by place: products, quotients, signs and bits.
 //!
-//! A vector of two lanes has no product and no quotient of 64 bits, and of the others the plain loop is as fast.
+//! A vector of two lanes has no product and no quotient of 64 bits. Of the others the compiler is given the plain loop.
 ghost use Rattle.std.specs.Prelude.{◌≡◌, length, pos, ◌*ℤ◌, neg_ℤ, int_div, int_rem, unsigned_abs, Ok};
 ghost use Rattle.std.specs.Int.{int_bit_and, int_bit_or, w64};
 ghost use Rattle.pooma_num.specs.Exact.{IsExact, IsExactDivision};
