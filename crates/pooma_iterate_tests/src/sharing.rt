@@ -35,6 +35,15 @@ impl Gate for Meeting {
     }
 }
 
+impl Meeting {
+    // Whether both entries came, and neither gave up.
+    fn met(&self) -> bool {
+        let [first, second] = &self.came;
+        let came = [first.load(Ordering::SeqCst), second.load(Ordering::SeqCst)];
+        came == [1, 1] && self.missed.load(Ordering::SeqCst) == 0
+    }
+}
+
 // A machine of two objects that are 0, with a write of each asked for.
 fn two_writes(alloc: Global) -> Option<Machine<Adding>>
     ensures { IfSome result (λ machine. All (λ event. event.seat ≡ 0) machine.history) }
@@ -63,9 +72,9 @@ fn ask_write(alloc: Global, machine: &mut Machine<Adding>, object: u32) -> Optio
     machine.request(alloc, 0, work).ok()
 }
 
-// Two writes by so many workers whose works meet: whether one of them gave up, and what the objects are then. None where
-// memory was short.
-fn meet<R: Threads + Wait + Sync>(rt: &R, alloc: Global, workers: u32) -> Option<(u64, [u64; 2])>
+// Two writes by so many workers whose works meet: whether both came to the gate and met, and what the objects are then. None
+// where memory was short.
+fn meet<R: Threads + Wait + Sync>(rt: &R, alloc: Global, workers: u32) -> Option<(bool, [u64; 2])>
     requires some { 0 < workers }
     requires few { workers ≤ 64 }
 {
@@ -81,15 +90,15 @@ fn meet<R: Threads + Wait + Sync>(rt: &R, alloc: Global, workers: u32) -> Option
     let [first, second] = objects.as_slice() else {
         return None;
     };
-    Some((gate.missed.load(Ordering::SeqCst), [**first, **second]))
+    Some((gate.met(), [**first, **second]))
 }
 
 #[test]
 fn the_works_of_two_workers_meet(rt: HostRuntime) {
-    assert!(rt; meet(&rt, rt.alloc(), 2) == Some((0, [1, 1])));
+    assert!(rt; meet(&rt, rt.alloc(), 2) == Some((true, [1, 1])));
 }
 
 #[test]
-fn no_more_workers_than_entries_are_asked_for(rt: HostRuntime) {
-    assert!(rt; meet(&rt, rt.alloc(), 64) == Some((0, [1, 1])));
+fn the_works_of_two_meet_where_64_are_asked_for(rt: HostRuntime) {
+    assert!(rt; meet(&rt, rt.alloc(), 64) == Some((true, [1, 1])));
 }
