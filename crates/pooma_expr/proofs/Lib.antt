@@ -1,4 +1,5 @@
 pub mod Runs
+pub mod Singles
 pub mod Trees
 pub mod Choices
 pub mod Correct

@@ -5,4 +5,5 @@ pub mod Code
 pub mod Compiled
 pub mod Machine
 pub mod Reductions
+pub mod Single
 pub mod Words

@@ -11,6 +11,7 @@ mod operation;
 mod partial;
 mod reads;
 mod reduction;
+mod single;
 mod tree;
 
 pub use code::Code;
@@ -18,4 +19,5 @@ pub use eval::eval_at;
 pub use partial::Partial;
 pub use reads::Reads;
 pub use reduction::Reduction;
+pub use single::{Operand, Single};
 pub use tree::{Expr, Op};
