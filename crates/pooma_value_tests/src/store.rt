@@ -213,3 +213,38 @@ fn changed(alloc: Global) -> Result<(Option<i64>, [Option<i64>; 2]), AllocError>
 fn copies_in_guards_are_not_read(rt: HostRuntime) {
     assert!(rt; changed(rt.alloc()) == Ok((None, [Some(0), Some(0)])));
 }
+
+// Which of the three patches of a row are kept as one number. They are lent for it and taken back.
+fn ones(store: &mut Store) -> Option<[bool; 3]> {
+    if store.lent() {
+        return None;
+    }
+    let patches = store.lend();
+    let ones = match patches.as_slice() {
+        [low, middle, high] => Some([low.is_one(), middle.is_one(), high.is_one()]),
+        _ => None,
+    };
+    store.settle(patches);
+    ones
+}
+
+// Which are so in a new row, after the cell 5 is set, after all cells of its patch are equal again, and after one of these is set
+// to what it was.
+fn kept_as_one(alloc: Global) -> Result<[Option<[bool; 3]>; 4], AllocError> {
+    let mut store = row(alloc)?;
+    let new = ones(&mut store);
+    change(alloc, &mut store, 1, Cell::of1(5), 9)?;
+    let one_set = ones(&mut store);
+    change(alloc, &mut store, 1, Cell::of1(4), 9)?;
+    change(alloc, &mut store, 1, Cell::of1(6), 9)?;
+    let all_set = ones(&mut store);
+    change(alloc, &mut store, 1, Cell::of1(6), 9)?;
+    Ok([new, one_set, all_set, ones(&mut store)])
+}
+
+#[test]
+fn equal_numbers_are_kept_as_one(rt: HostRuntime) {
+    let all = Some([true, true, true]);
+    let kept = [all, Some([true, false, true]), all, all];
+    assert!(rt; kept_as_one(rt.alloc()) == Ok(kept));
+}
