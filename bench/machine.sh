@@ -1,7 +1,8 @@
 #!/usr/bin/env bash
 # How long a window takes on the iterate machine, as a table of Markdown: 1,024 and 4,096 small works over 256 objects, all
 # requested, then run and released one after another. Where the larger window takes 50 milliseconds or more in total, which is
-# bold, this fails.
+# bold, this fails. Then how long an entry takes where all ask for one object: 65,536 that write it and 65,536 that read it, beside
+# 4,096 over 256 objects, the least of three windows of each. Above 1.5 times as long, which is bold, this fails too.
 set -eu
 cd "$(dirname "$0")/../crates/pooma_bench"
 limit=50000
@@ -21,3 +22,18 @@ if [ "$total" -ge "$limit" ]; then
     echo "$entries entries took $total microseconds, and have to take fewer than $limit" >&2
     exit 1
 fi
+
+report=$(out/pooma_bench queues 2>&1)
+echo
+echo '| entries | nanoseconds an entry | of many objects, at most 1.5 |'
+echo '| --- | --- | --- |'
+sed -n 's/^\(.*\): \([0-9]*\) nanoseconds an entry$/\1;\2/p' <<<"$report" |
+    awk -F';' '
+        NR == 1 { many = $2 > 0 ? $2 : 1 }
+        {
+            part = sprintf("%.2f", $2 / many)
+            if ($2 > 1.5 * many) { part = "**" part "**"; bad = 1 }
+            print "| " $1 " | " $2 " | " part " |"
+        }
+        END { exit bad }
+    ' || { echo "an entry of one object takes longer than it may" >&2; exit 1; }

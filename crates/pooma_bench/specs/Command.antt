@@ -3,7 +3,7 @@ use Rattle.std.specs.Prelude.{◌≡◌, ◌<◌, ◌≤◌, ℕ, List, [], ◌�
 use Rattle.std.specs.Str.Parse.{IsNumeral, digits_value, without_leading_plus}
 use Rattle.pooma_bench.specs.declared.window.TheConstants.{MOST_ENTRIES}
 use Rattle.pooma_bench.specs.declared.command.Command.{Command}
-use Rattle.pooma_bench.specs.declared.command.Command.TheVariants.{Machine, Eval, Desk, Cells, Lending, Pieces, Splitting, All}
+use Rattle.pooma_bench.specs.declared.command.Command.TheVariants.{Machine, Eval, Desk, Ready, Queues, Rows, Cells, Lending, Pieces, Splitting, All}
 
 -- the text is the number of a window's entries
 pub record IsWindowSize (text : List ℕ) (entries : ℕ) : Type 0 where
@@ -23,6 +23,9 @@ abbrev pub IsAskedBy : List (List ℕ) → Command → Type 0
 IsAskedBy words (Machine entries) = AsksForWindow words (codes "machine") entries
 IsAskedBy words Eval = words ≡ codes "eval" ∷ []
 IsAskedBy words Desk = words ≡ codes "desk" ∷ []
+IsAskedBy words Ready = words ≡ codes "ready" ∷ []
+IsAskedBy words Queues = words ≡ codes "queues" ∷ []
+IsAskedBy words Rows = words ≡ codes "rows" ∷ []
 IsAskedBy words Cells = words ≡ codes "cells" ∷ []
 IsAskedBy words Lending = words ≡ codes "lending" ∷ []
 IsAskedBy words Pieces = words ≡ codes "pieces" ∷ []

@@ -15,6 +15,12 @@ pub enum Command {
     Eval,
     /// `desk`: works through a desk by one thread and by several.
     Desk,
+    /// `ready`: numbers through a deque of ready numbers.
+    Ready,
+    /// `queues`: windows whose entries ask for one object.
+    Queues,
+    /// `rows`: kernels of whole rows.
+    Rows,
     /// `cells`: cells written and read through patches, and read through a store.
     Cells,
     /// `lending`: objects that a store lends and takes back.
@@ -53,6 +59,9 @@ impl Command {
         match name {
             "eval" => Some(Command::Eval),
             "desk" => Some(Command::Desk),
+            "ready" => Some(Command::Ready),
+            "queues" => Some(Command::Queues),
+            "rows" => Some(Command::Rows),
             "cells" => Some(Command::Cells),
             "lending" => Some(Command::Lending),
             "pieces" => Some(Command::Pieces),

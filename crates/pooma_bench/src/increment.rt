@@ -7,24 +7,26 @@ use std::alloc::{AllocError, Global};
 use std::marker::Model;
 use std::sync::Arc;
 
-/// A work that adds one to the object that it writes, and answers the number of the one that it reads.
+/// A work that adds one to the object that it writes, if any, and answers the number of the one that it reads.
 ///
 /// Contracts see it as its requests.
 #[derive(Drop)]
 pub struct Increment {
     requests: [Request; 2],
+    // How many of them it has.
+    count: usize,
 }
 
 impl Model for Increment {
-    ghost use Rattle.std.specs.Prelude.{List};
+    ghost use Rattle.std.specs.Prelude.{◌≤◌, List, take};
     ghost use Rattle.pooma_machine.specs.declared.step.Request.{Request};
     ghost use Rattle.pooma_machine.specs.Steps.{IsRequestList};
 
     ghost Value = { List Request };
 
-    ghost view = { λ w. w.requests };
+    ghost view = { λ w. take w.count w.requests };
 
-    ghost invariant = { λ w. IsRequestList w.requests };
+    ghost invariant = { λ w. (w.count ≤ 2) × IsRequestList (take w.count w.requests) };
 }
 
 impl Increment {
@@ -46,11 +48,24 @@ impl Increment {
         if write.object < read.object {
             Increment {
                 requests: [write, read],
+                count: 2,
             }
         } else {
             Increment {
                 requests: [read, write],
+                count: 2,
             }
+        }
+    }
+
+    /// A work that asks for the first object alone.
+    pub fn of_first_object(mode: Mode) -> Increment
+        ensures objects { All (λ request. request.object < OBJECTS) result }
+    {
+        let request = Request { object: 0, mode };
+        Increment {
+            requests: [request; 2],
+            count: 1,
         }
     }
 }
@@ -74,7 +89,7 @@ impl Work for Increment {
     ghost meaning = { increments };
 
     fn requests(&self) -> &[Request] {
-        &self.requests
+        &self.requests[..self.count]
     }
 
     fn statement(&self) -> u32 {

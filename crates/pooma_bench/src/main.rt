@@ -5,6 +5,7 @@ ghost use Rattle.std.specs.Prelude.{◌≤◌};
 
 use command::Command;
 use pooma_iterate_bench::{report_cells, report_lending, report_pieces, report_splitting};
+use pooma_row_bench::report_rows;
 use std::process::ExitCode;
 use std::sync::Wait;
 use std::thread::Threads;
@@ -17,6 +18,8 @@ mod desk;
 mod eval;
 mod increment;
 mod measure;
+mod queues;
+mod ready;
 mod window;
 
 /// The words ask for no measurement.
@@ -32,6 +35,9 @@ fn report_all<R: Threads + Wait + Sync + Clock + AllocGlobal + Print + Eprint>(
     measure::report(rt, entries)?;
     eval::report(rt)?;
     desk::report(rt)?;
+    ready::report(rt)?;
+    queues::report(rt)?;
+    report_rows(rt)?;
     report_cells(rt)?;
     report_lending(rt)?;
     report_pieces(rt)?;
@@ -44,6 +50,9 @@ fn main(rt: HostRuntime) -> io::Result<ExitCode> {
         Some(Command::Machine { entries }) => measure::report(&rt, entries)?,
         Some(Command::Eval) => eval::report(&rt)?,
         Some(Command::Desk) => desk::report(&rt)?,
+        Some(Command::Ready) => ready::report(&rt)?,
+        Some(Command::Queues) => queues::report(&rt)?,
+        Some(Command::Rows) => report_rows(&rt)?,
         Some(Command::Cells) => report_cells(&rt)?,
         Some(Command::Lending) => report_lending(&rt)?,
         Some(Command::Pieces) => report_pieces(&rt)?,
@@ -51,7 +60,7 @@ fn main(rt: HostRuntime) -> io::Result<ExitCode> {
         Some(Command::All { entries }) => report_all(&rt, entries)?,
         None => {
             eprintln!(rt;
-                "usage: pooma_bench machine N | eval | desk | cells | lending | pieces | splitting | all N, where N is a number from 1 to {MOST_ENTRIES}"
+                "usage: pooma_bench machine N | eval | desk | ready | queues | rows | cells | lending | pieces | splitting | all N, where N is a number from 1 to {MOST_ENTRIES}"
             )?;
             return Ok(ExitCode::from(USAGE));
         }
