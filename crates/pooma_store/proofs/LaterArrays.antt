@@ -9,7 +9,7 @@ use Rattle.pooma_layout.specs.Axes.{CutAxis, IsCutAxis}
 use Rattle.pooma_layout.specs.Patches.{allocated_boxes, owner_of, total_of}
 use Rattle.pooma_store.specs.Gathered.{HasLaws}
 use Rattle.pooma_store.specs.Numbering.{layout_at, object_count, object_of, object_at, AreObjects, new_patches}
-use Rattle.pooma_store.specs.Standing.{HasNumber, OwnerHas, owner_object, IsGuarded}
+use Rattle.pooma_store.specs.Standing.{OwnerHas, owner_object, IsGuarded}
 use Rattle.pooma_store.proofs.KeptPatches.{objects_more}
 use Rattle.pooma_store.proofs.NewArrays.{zeros_of_boxes}
 use Rattle.pooma_store.proofs.ObjectNumbers.{length-areas}
