@@ -1,8 +1,9 @@
 //! Reductions of which a part is done.
-ghost use Rattle.std.specs.Prelude.{◌≡◌, ◌+◌, ◌^◌, ◌<◌, ◌≤◌, ℤ, List, [], ◌∷◌, ◌++◌, length};
-ghost use Rattle.pooma_expr.specs.Reductions.{AllFit, StandsFor, join_all, join_of, result_over};
+ghost use Rattle.std.specs.Prelude.{◌≡◌, ◌+◌, ◌^◌, ◌<◌, ◌≤◌, ℤ, List, [], ◌∷◌, ◌++◌, count_by, fold, length};
+ghost use Rattle.pooma_expr.specs.Reductions.{AllFit, StandsFor, is_set, join_all, join_of, result_over};
 
 use crate::reduction::Reduction;
+use pooma_lanes::sum_row;
 use pooma_num::{FaultKind, Total};
 use std::marker::Model;
 
@@ -81,6 +82,23 @@ impl Partial {
         self.merge(one);
     }
 
+    // The partial of a row of numbers, whose sum is taken at once.
+    fn of_row(r: Reduction, values: &[i64]) -> Partial
+        requires { length values.now ≤ 2 ^ 23 }
+        ensures reduction { result.reduction ≡ r }
+        ensures count { result.total.count ≡ length values.now }
+        ensures numbers { StandsFor values.now result }
+    {
+        let mut total = Total::new();
+        total.add_row(sum_row(values), values.len() as u32);
+        Partial {
+            reduction: r,
+            total,
+            set: count_set(values),
+            joined: join_row(r, values),
+        }
+    }
+
     /// Puts the numbers of a row at the end, as if each were pushed in turn. It takes no memory.
     pub fn push_row(&mut self, values: &[i64])
         requires { self.old.total.count + length values.now ≤ 2 ^ 23 }
@@ -88,9 +106,8 @@ impl Partial {
         ensures count { self.new.total.count ≡ self.old.total.count + length values.now }
         ensures numbers { (xs : List ℤ) → StandsFor xs self.old → StandsFor (xs ++ values.now) self.new }
     {
-        for v in values {
-            self.push(*v);
-        }
+        let row = Partial::of_row(self.reduction, values);
+        self.merge(row);
     }
 
     /// Puts the numbers of another partial of the reduction at the end.
@@ -135,6 +152,49 @@ fn join(reduction: Reduction, x: i64, y: i64) -> i64
         Reduction::BitOr => x | y,
         Reduction::Sum | Reduction::All | Reduction::Any | Reduction::Count => x,
     }
+}
+
+// How many of the numbers are not 0.
+fn count_set(values: &[i64]) -> u32
+    requires { length values.now ≤ 2 ^ 23 }
+    ensures set { result ≡ count_by is_set values.now }
+    ensures most { result ≤ length values.now }
+    ensures fit { AllFit values.now }
+{
+    let mut set = 0u32;
+    for v in values {
+        set += one_if_set(*v);
+    }
+    set
+}
+
+// One where the number is not 0.
+fn one_if_set(v: i64) -> u32
+    ensures set { result ≡ count_by is_set (v ∷ []) }
+    ensures most { result ≤ 1 }
+{
+    u32::from(v != 0)
+}
+
+// What is joined of all numbers, one after another; 0 where there is none.
+fn join_row(reduction: Reduction, values: &[i64]) -> i64
+    ensures { result ≡ join_all (join_of reduction) values.now }
+{
+    match values {
+        [] => 0,
+        [first, rest @ ..] => join_on(reduction, *first, rest),
+    }
+}
+
+// What is joined of a number and those behind it, one after another.
+fn join_on(reduction: Reduction, first: i64, rest: &[i64]) -> i64
+    ensures { result ≡ fold (join_of reduction) first rest.now }
+{
+    let mut joined = first;
+    for v in rest {
+        joined = join(reduction, joined, *v);
+    }
+    joined
 }
 
 // What is joined of two lists, of which so many numbers were joined to these two; an empty list leaves what is joined of the
