@@ -1,8 +1,8 @@
 -- What several calls of a source take, one after another.
-use Rattle.std.proofs.Common.{ℕ, ◌+◌, ◌<◌, ◌≤◌, Option, None, Some, List, [], ◌++◌, length, refl, sym, ap, ◌∙◌, arith, append_assoc, length-append, take, ◌-◌}
+use Rattle.std.proofs.Common.{◌≡◌, ℕ, ◌+◌, ◌<◌, ◌≤◌, Option, None, Some, List, [], ◌++◌, length, refl, sym, ap, ◌∙◌, arith, append_assoc, length-append, take, ◌-◌}
 use Rattle.std.proofs.lemmas.List.{length-take}
 use Rattle.std.specs.Io.KnownBytes.{Consumes, Keeps}
-use Rattle.pooma_io.specs.Outside.{CountsCall, CountsAtMost, TakesSome, TakesMoreThan}
+use Rattle.pooma_io.specs.Outside.{CountsCall, CountsAtMost, TakesAtMost, TakesExactly}
 
 -- before the first call nothing is taken
 pub consumes_none : (left : Option (List ℕ)) → Consumes left left []
@@ -25,17 +25,17 @@ consumes_kept (Some xs) None now bytes h k = absurd h
 consumes_kept (Some xs) (Some ys) None bytes h k = absurd k
 consumes_kept (Some xs) (Some ys) (Some zs) bytes h k = h ∙ ap (λ (rest : List ℕ). bytes ++ rest) (sym k)
 
--- bytes that were taken are some bytes
-pub takes_some : (before now : Option (List ℕ)) (bytes : List ℕ) → Consumes before now bytes → TakesSome before now
-takes_some None now bytes h = tt
-takes_some (Some xs) None bytes h = absurd h
-takes_some (Some xs) (Some ys) bytes h = (bytes, h)
+-- bytes that were taken are at most so many, if they are
+pub takes_at_most : (most : ℕ) (before now : Option (List ℕ)) (bytes : List ℕ) → Consumes before now bytes → length bytes ≤ most → TakesAtMost most before now
+takes_at_most most None now bytes h few = tt
+takes_at_most most (Some xs) None bytes h few = absurd h
+takes_at_most most (Some xs) (Some ys) bytes h few = (bytes, h, few)
 
--- and more than so many, if they are
-pub takes_more_than : (limit : ℕ) (before now : Option (List ℕ)) (bytes : List ℕ) → Consumes before now bytes → limit < length bytes → TakesMoreThan limit before now
-takes_more_than limit None now bytes h more = tt
-takes_more_than limit (Some xs) None bytes h more = absurd h
-takes_more_than limit (Some xs) (Some ys) bytes h more = (bytes, h, more)
+-- and exactly so many, if they are
+pub takes_exactly : (count : ℕ) (before now : Option (List ℕ)) (bytes : List ℕ) → Consumes before now bytes → length bytes ≡ count → TakesExactly count before now
+takes_exactly count None now bytes h size = tt
+takes_exactly count (Some xs) None bytes h size = absurd h
+takes_exactly count (Some xs) (Some ys) bytes h size = (bytes, h, size)
 
 -- before the first call none is counted
 pub counts_none : (reads : Option ℕ) → CountsAtMost reads reads 0
@@ -56,6 +56,11 @@ counts_weaker None now calls most h le = tt
 counts_weaker (Some n) None calls most h le = tt
 counts_weaker (Some n) (Some m) calls most h le = omega arith
 
--- a read of more than what the limit leaves passes the limit
-pub length-passes : (limit n : ℕ) (bytes buf : List ℕ) → limit - length bytes < n → n ≤ length buf → limit < length (bytes ++ take n buf)
-length-passes limit n bytes buf more within = omega (arith, length-append bytes (take n buf), length-take n buf)
+-- a read of more than what the limit leaves, which asked for one byte more at most, is one byte past the limit
+pub length-passes : (limit n : ℕ) (bytes piece : List ℕ) → length bytes ≤ limit → limit - length bytes < n → n ≤ limit - length bytes + 1 →
+    n ≤ length piece → length (bytes ++ take n piece) ≡ limit + 1
+length-passes limit n bytes piece within more asked full = omega (arith, length-append bytes (take n piece), length-take n piece)
+
+-- what a front has is at most as many as were asked for
+pub length-front : (most n : ℕ) (bytes : List ℕ) → n ≤ length (take most bytes) → n ≤ most
+length-front most n bytes within = omega (arith, length-take most bytes)

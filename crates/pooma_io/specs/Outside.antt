@@ -35,14 +35,14 @@ abbrev pub CountsAtMost : Option ℕ → Option ℕ → ℕ → Type 0
 CountsAtMost (Some n) (Some m) calls = m ≤ n + calls
 CountsAtMost _ _ calls = Unit {0}
 
--- some bytes were taken from the front of what was left, and no others
-abbrev pub TakesSome : Option (List ℕ) → Option (List ℕ) → Type 0
-TakesSome None new = Unit {0}
-TakesSome (Some xs) None = ⊥
-TakesSome (Some xs) (Some ys) = (taken : List ℕ) × (xs ≡ taken ++ ys)
+-- at most so many bytes were taken from the front of what was left, and no others
+abbrev pub TakesAtMost : ℕ → Option (List ℕ) → Option (List ℕ) → Type 0
+TakesAtMost most None new = Unit {0}
+TakesAtMost most (Some xs) None = ⊥
+TakesAtMost most (Some xs) (Some ys) = (taken : List ℕ) × (xs ≡ taken ++ ys) × (length taken ≤ most)
 
--- more than so many bytes were taken from the front of what was left
-abbrev pub TakesMoreThan : ℕ → Option (List ℕ) → Option (List ℕ) → Type 0
-TakesMoreThan limit None new = Unit {0}
-TakesMoreThan limit (Some xs) None = ⊥
-TakesMoreThan limit (Some xs) (Some ys) = (taken : List ℕ) × (xs ≡ taken ++ ys) × (limit < length taken)
+-- exactly so many bytes were taken from the front of what was left
+abbrev pub TakesExactly : ℕ → Option (List ℕ) → Option (List ℕ) → Type 0
+TakesExactly count None new = Unit {0}
+TakesExactly count (Some xs) None = ⊥
+TakesExactly count (Some xs) (Some ys) = (taken : List ℕ) × (xs ≡ taken ++ ys) × (length taken ≡ count)

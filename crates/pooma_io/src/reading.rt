@@ -1,7 +1,7 @@
 //! Reading a source to its end.
 ghost use Rattle.std.specs.Prelude.{◌≡◌, ◌+◌, ◌≤◌, IfOk, OnOk, OnErr, IsErrOf, vec_len};
 ghost use Rattle.std.specs.Io.KnownBytes.{Consumes, IsAtEnd};
-ghost use Rattle.pooma_io.specs.Outside.{CountsAtMost, HasRisen, TakesMoreThan, TakesSome};
+ghost use Rattle.pooma_io.specs.Outside.{CountsAtMost, HasRisen, TakesAtMost, TakesExactly};
 
 use crate::source::{Failed, Source};
 use std::alloc::{AllocError, Global};
@@ -43,13 +43,13 @@ impl From<AllocError> for ReadAllError {
     }
 }
 
-/// How many bytes one read asks for.
+/// How many bytes one read asks for at most.
 const CHUNK: usize = 4096;
 
 /// All bytes up to the end of the source, in their order; `limit` is the most that there may be.
 ///
-/// It reads until a read gives no byte, and at most `limit + 2` times. After an error the bytes that were taken are lost: the
-/// source goes on behind them.
+/// It reads until a read gives no byte, or the first byte past the limit came, and never behind that: an open pipe is not
+/// waited for. After an error the bytes that were taken are lost: the source goes on behind them.
 pub fn read_all<S: Source>(
     alloc: Global,
     source: &mut S,
@@ -60,19 +60,21 @@ pub fn read_all<S: Source>(
     ensures end { OnOk result (IsAtEnd (S.left source.new)) }
     ensures within { IfOk result (λ bytes. vec_len bytes ≤ limit) }
 
-    // An error takes bytes from the front alone, and each has its cause.
-    ensures taken { OnErr result (TakesSome (S.left source.old) (S.left source.new)) }
-    ensures too_long { IsErrOf result ReadAllError.TooLong → TakesMoreThan limit (S.left source.old) (S.left source.new) }
+    // An error takes bytes from the front alone, one past the limit at most, and each has its cause.
+    ensures taken { OnErr result (TakesAtMost (limit + 1) (S.left source.old) (S.left source.new)) }
+    ensures too_long { IsErrOf result ReadAllError.TooLong → TakesExactly (limit + 1) (S.left source.old) (S.left source.new) }
     ensures fault { IsErrOf result ReadAllError.ReadFault → HasRisen (S.faults source.old) (S.faults source.new) }
     ensures later { S.faults source.old ≤ S.faults source.new }
 
-    // Each read takes a byte at least, but for the last.
-    ensures few_reads { CountsAtMost (S.reads source.old) (S.reads source.new) (limit + 2) }
+    // Each read takes a byte at least, but for the one that finds the end, behind which there is none.
+    ensures few_reads { CountsAtMost (S.reads source.old) (S.reads source.new) (limit + 1) }
+    ensures no_read_behind { IfOk result (λ bytes. CountsAtMost (S.reads source.old) (S.reads source.new) (vec_len bytes + 1)) }
 {
     let mut bytes = Vec::new(alloc);
     let mut buf = [0; CHUNK];
     'reads: loop {
-        let n = source.read(&mut buf)?;
+        let most = (limit - bytes.len()).min(CHUNK - 1) + 1;
+        let n = source.read(&mut buf[..most])?;
         if n == 0 {
             return Ok(bytes);
         }

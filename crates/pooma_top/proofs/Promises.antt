@@ -1,7 +1,7 @@
 -- What is left to read, what is prepared for it, and the output that is defined for it.
 use Rattle.std.proofs.Common.{◌≡◌, ℕ, ◌+◌, List, ◌++◌, length, Option, None, Some, IfSome, append-nil, ap, sym, subst, ◌∙◌, refl, arith, inl, inr, length-append, Bool, true, false, Result, Ok, Err, MatchResult, IfOk, OnOk}
 use Rattle.std.specs.Io.KnownBytes.{Consumes, IsAtEnd}
-use Rattle.pooma_io.specs.Outside.{TakesMoreThan}
+use Rattle.pooma_io.specs.Outside.{TakesExactly}
 use Rattle.pooma_model.specs.Order.{Programmed}
 use Rattle.pooma_model.specs.Serial.{serial_of}
 use Rattle.pooma_script.specs.declared.cause.Cause.{Cause}
@@ -33,8 +33,8 @@ whole_prepared does (Some xs) (Some ys) bytes prepared taken end is =
     let same : xs ≡ bytes = taken ∙ ap (λ l. bytes ++ l) end ∙ append-nil bytes in
     rw same is
 
--- more than the limit was taken, so what was left is refused for its length
-pub long_prepared : (does : Command) (old new : Option (List ℕ)) (prepared : Prepared) (line : ℕ) (why : Cause) → TakesMoreThan 1048576 old new
+-- one byte past the limit was taken, so what was left is refused for its length
+pub long_prepared : (does : Command) (old new : Option (List ℕ)) (prepared : Prepared) (line : ℕ) (why : Cause) → TakesExactly 1048577 old new
     → line ≡ 0 → why ≡ cause.Limit limit.ScriptBytes → IsAnswered (refused_output line why) prepared → IfSome old (λ input. IsForBytes does input prepared)
 long_prepared does None new prepared line why taken at_none for_bytes is = tt
 long_prepared does (Some xs) None prepared line why taken at_none for_bytes is = absurd taken

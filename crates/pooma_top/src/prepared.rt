@@ -1,7 +1,7 @@
 //! What is left to do for a task once its script is there.
-ghost use Rattle.std.specs.Prelude.{◌≡◌, ◌⊎◌, ◌≤◌, ℕ, List, IfOk, IfErr, IfSome, MatchResult, OnOk};
+ghost use Rattle.std.specs.Prelude.{◌≡◌, ◌⊎◌, ◌+◌, ◌≤◌, ℕ, List, IfOk, IfErr, IfSome, MatchResult, OnOk};
 ghost use Rattle.std.specs.Io.KnownBytes.{IsAtEnd};
-ghost use Rattle.pooma_io.specs.Outside.{HasRisen, TakesMoreThan};
+ghost use Rattle.pooma_io.specs.Outside.{HasRisen, TakesExactly};
 ghost use Rattle.pooma_script.specs.Scripts.{Runs};
 ghost use Rattle.pooma_top.specs.declared.command.Task.{Task};
 ghost use Rattle.pooma_top.specs.Output.{IsGiven, made_output, refused_output, script_of};
@@ -34,7 +34,7 @@ pub fn prepare<S: Source>(alloc: Global, source: &mut S, task: Task) -> Result<P
     ensures prepared { IfOk result (λ prepared. (input : List ℕ) → IsGiven task (S.left source.old) input → IsPrepared task input prepared) }
     ensures fit { IfOk result (λ prepared. IsFit task prepared) }
     ensures read_to_end { Reads task → IfOk result (λ prepared. ((promised prepared).status ≡ Status.Done) ⊎ ((promised prepared).status ≡ Status.Faulted) → IsAtEnd (S.left source.new)) }
-    ensures refused_read { Reads task → OnOk result (IsAtEnd (S.left source.new) ⊎ TakesMoreThan MOST_SCRIPT_BYTES (S.left source.old) (S.left source.new)) }
+    ensures refused_read { Reads task → OnOk result (IsAtEnd (S.left source.new) ⊎ TakesExactly (MOST_SCRIPT_BYTES + 1) (S.left source.old) (S.left source.new)) }
     ensures ends { IfErr result (λ status. ((status ≡ Status.ReadFault) × HasRisen (S.faults source.old) (S.faults source.new)) ⊎ (status ≡ Status.OutOfMemory)) }
     ensures unread { Makes task → (source.new ≡ source.old) × IfErr result (λ status. status ≡ Status.OutOfMemory) }
     ensures later { S.faults source.old ≤ S.faults source.new }
@@ -65,7 +65,7 @@ fn read_script<S: Source>(
     ensures prepared { IfOk result (λ prepared. IfSome (S.left source.old) (λ input. IsForBytes command input prepared)) }
     ensures fit { IfOk result (λ prepared. IsFit (Task.Read command) prepared) }
     ensures read_to_end { IfOk result (λ prepared. ((promised prepared).status ≡ Status.Done) ⊎ ((promised prepared).status ≡ Status.Faulted) → IsAtEnd (S.left source.new)) }
-    ensures refused_read { OnOk result (IsAtEnd (S.left source.new) ⊎ TakesMoreThan MOST_SCRIPT_BYTES (S.left source.old) (S.left source.new)) }
+    ensures refused_read { OnOk result (IsAtEnd (S.left source.new) ⊎ TakesExactly (MOST_SCRIPT_BYTES + 1) (S.left source.old) (S.left source.new)) }
     ensures ends { IfErr result (λ status. ((status ≡ Status.ReadFault) × HasRisen (S.faults source.old) (S.faults source.new)) ⊎ (status ≡ Status.OutOfMemory)) }
     ensures later { S.faults source.old ≤ S.faults source.new }
 {

@@ -1,6 +1,6 @@
 ghost use Rattle.std.specs.Prelude.{◌≡◌, ◌≢◌, ◌↔◌, ◌⊎◌, ◌≤◌, ℕ, List, length, map, string_bytes, MatchResult, None, OnOk, OnErr, IfOk, IfErr};
 ghost use Rattle.std.specs.Io.KnownBytes.{Appends, IsAtEnd};
-ghost use Rattle.pooma_io.specs.Outside.{HasRisen, TakesMoreThan};
+ghost use Rattle.pooma_io.specs.Outside.{HasRisen, TakesExactly};
 ghost use Rattle.pooma_model.specs.Order.{Programmed};
 ghost use Rattle.pooma_script.specs.Scripts.{IsScript, Runs};
 ghost use Rattle.pooma_top.specs.declared.command.Command.TheVariants as command;
@@ -67,10 +67,10 @@ pub fn top_one<S: Source, K: Sink, P: Picker>(
     ensures complete { (HasRisen (S.faults source.old) (S.faults source.new) → ⊥) → (HasRisen (K.faults sink.old) (K.faults sink.new) → ⊥)
         → IsCommand 1 (map string_bytes words.now) → IsDefined result ⊎ (result ≡ Status.OutOfMemory) }
 
-    // A script that is read is read to its end, or past the limit on its bytes.
+    // A script that is read is read to its end, or one byte past the limit, and no further.
     ensures read_to_end { ReadsScript (map string_bytes words.now) → (result ≡ Status.Done) ⊎ (result ≡ Status.Faulted) → IsAtEnd (S.left source.new) }
     ensures refused_read { ReadsScript (map string_bytes words.now) → result ≡ Status.Refused
-        → IsAtEnd (S.left source.new) ⊎ TakesMoreThan 1048576 (S.left source.old) (S.left source.new) }
+        → IsAtEnd (S.left source.new) ⊎ TakesExactly 1048577 (S.left source.old) (S.left source.new) }
 
     // The counts of faults do not fall.
     ensures later { (S.faults source.old ≤ S.faults source.new) × (K.faults sink.old ≤ K.faults sink.new) }
@@ -132,10 +132,10 @@ pub fn top<R: Threads + Wait + Sync, S: Source, K: Sink, G: Gate + Sync>(
     ensures complete { (HasRisen (S.faults source.old) (S.faults source.new) → ⊥) → (HasRisen (K.faults sink.old) (K.faults sink.new) → ⊥)
         → IsCommand 64 (map string_bytes words.now) → IsDefined result ⊎ (result ≡ Status.OutOfMemory) }
 
-    // A script that is read is read to its end, or past the limit on its bytes.
+    // A script that is read is read to its end, or one byte past the limit, and no further.
     ensures read_to_end { ReadsScript (map string_bytes words.now) → (result ≡ Status.Done) ⊎ (result ≡ Status.Faulted) → IsAtEnd (S.left source.new) }
     ensures refused_read { ReadsScript (map string_bytes words.now) → result ≡ Status.Refused
-        → IsAtEnd (S.left source.new) ⊎ TakesMoreThan 1048576 (S.left source.old) (S.left source.new) }
+        → IsAtEnd (S.left source.new) ⊎ TakesExactly 1048577 (S.left source.old) (S.left source.new) }
 
     // The counts of faults do not fall.
     ensures later { (S.faults source.old ≤ S.faults source.new) × (K.faults sink.old ≤ K.faults sink.new) }
@@ -159,7 +159,7 @@ fn answer_one<S: Source, P: Picker>(
     ensures answer { IfOk result (λ answer. (input : List ℕ) → IsGiven task (S.left source.old) input → IsOutputOf task input (shown answer)) }
     ensures defined { IfOk result (λ answer. IsDefined answer.status) }
     ensures read_to_end { Reads task → IfOk result (λ answer. (answer.status ≡ Status.Done) ⊎ (answer.status ≡ Status.Faulted) → IsAtEnd (S.left source.new)) }
-    ensures refused_read { Reads task → OnOk result (IsAtEnd (S.left source.new) ⊎ TakesMoreThan 1048576 (S.left source.old) (S.left source.new)) }
+    ensures refused_read { Reads task → OnOk result (IsAtEnd (S.left source.new) ⊎ TakesExactly 1048577 (S.left source.old) (S.left source.new)) }
     ensures ends { IfErr result (λ status. ((status ≡ Status.ReadFault) × HasRisen (S.faults source.old) (S.faults source.new)) ⊎ (status ≡ Status.OutOfMemory)) }
     ensures unread { Makes task → (source.new ≡ source.old) × IfErr result (λ status. status ≡ Status.OutOfMemory) }
     ensures later { S.faults source.old ≤ S.faults source.new }
@@ -184,7 +184,7 @@ fn answer_many<R: Threads + Wait + Sync, S: Source, G: Gate + Sync>(
     ensures answer { IfOk result (λ answer. (input : List ℕ) → IsGiven task (S.left source.old) input → IsOutputOf task input (shown answer)) }
     ensures defined { IfOk result (λ answer. IsDefined answer.status) }
     ensures read_to_end { Reads task → IfOk result (λ answer. (answer.status ≡ Status.Done) ⊎ (answer.status ≡ Status.Faulted) → IsAtEnd (S.left source.new)) }
-    ensures refused_read { Reads task → OnOk result (IsAtEnd (S.left source.new) ⊎ TakesMoreThan 1048576 (S.left source.old) (S.left source.new)) }
+    ensures refused_read { Reads task → OnOk result (IsAtEnd (S.left source.new) ⊎ TakesExactly 1048577 (S.left source.old) (S.left source.new)) }
     ensures ends { IfErr result (λ status. ((status ≡ Status.ReadFault) × HasRisen (S.faults source.old) (S.faults source.new)) ⊎ (status ≡ Status.OutOfMemory)) }
     ensures unread { Makes task → (source.new ≡ source.old) × IfErr result (λ status. status ≡ Status.OutOfMemory) }
     ensures later { S.faults source.old ≤ S.faults source.new }
