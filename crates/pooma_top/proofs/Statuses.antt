@@ -1,11 +1,18 @@
 -- What the status of an output tells of the script.
-use Rattle.std.proofs.Common.{◌≡◌, inl, inr, ℕ, Bool, true, false, List, [], ◌∷◌, ◌++◌, refl, sym, subst, ap, ◌∙◌, append_assoc}
-use Rattle.pooma_field.specs.Worlds.{World}
+use Rattle.std.proofs.Common.{◌≡◌, inl, inr, ℕ, Bool, true, false, List, [], ◌∷◌, ◌++◌, map, flat_map, ℤ, refl, sym, subst, ap, ◌∙◌, append-nil, append_assoc}
+use Rattle.std.specs.Fmt.{signed_decimal}
+use Rattle.std.specs.List.{join_with_byte}
+use Rattle.pooma_domain.specs.Cells.{Interval, cells_of}
+use Rattle.pooma_field.specs.Worlds.{World, scalar_of}
+use Rattle.pooma_model.specs.declared.statement.Action.{Action}
+use Rattle.pooma_model.specs.declared.statement.Action.TheVariants as action
 use Rattle.pooma_model.specs.declared.statement.Statement.{Statement}
 use Rattle.pooma_model.specs.Assigning.{Effect, Becomes, Faults}
-use Rattle.pooma_model.specs.Declarations.{Declared}
+use Rattle.pooma_model.specs.Declarations.{Declared, seen_in}
 use Rattle.pooma_model.specs.Order.{Programmed}
 use Rattle.pooma_model.specs.Serial.{Run, effect_of, go_on, printed, serial, serial_of}
+use Rattle.pooma_model.specs.Texts.{fault_text, row_text, view_text}
+use Rattle.pooma_view.specs.Slots.{cell_named, positions_of}
 use Rattle.pooma_print.specs.Texts.{refusal_text}
 use Rattle.pooma_script.specs.declared.cause.Cause.{Cause}
 use Rattle.pooma_script.specs.Scripts.{Script, IsScript, Runs, Refused}
@@ -14,25 +21,65 @@ use Rattle.pooma_top.specs.declared.command.Command.TheVariants as command
 use Rattle.pooma_top.specs.declared.command.Task.TheVariants.{Read, Make, Demo}
 use Rattle.pooma_top.specs.declared.status.Status.TheVariants as status
 use Rattle.pooma_top.specs.Causes.{cause_text}
-use Rattle.pooma_top.specs.Output.{EndsInFault, IsAnswer, IsDoneWith, IsOutput, Output, ended, output_of, script_of}
+use Rattle.pooma_top.specs.Output.{EndsInFault, IsOfLines, StopsAtFault, IsAnswer, IsDoneWith, IsOutput, Output, ended, output_of, script_of}
+
+-- lines behind lines
+lines_append : (front back : List ℕ) → IsOfLines front → IsOfLines back → IsOfLines (front ++ back)
+lines_append front back lines (inl none) = subst IsOfLines (sym (ap (λ (rest : List ℕ). front ++ rest) none ∙ append-nil front)) lines
+lines_append front back lines (inr more) =
+    inr (front ++ more.0, ap (λ (rest : List ℕ). front ++ rest) more.1 ∙ sym (append_assoc front more.0 (10 ∷ [])))
+
+lines_of_all : {A : Type 0} (f : A → List ℕ) (xs : List A) → ((x : A) → IsOfLines (f x)) → IsOfLines (flat_map f xs)
+lines_of_all f [] each = inl refl
+lines_of_all f (x ∷ xs) each = lines_append (f x) (flat_map f xs) (each x) (lines_of_all f xs each)
+
+lines_of_row : (numbers : List ℤ) → IsOfLines (row_text numbers)
+lines_of_row numbers = inr (join_with_byte 32 (map signed_decimal numbers), refl)
+
+lines_of_view : (number : List ℤ → ℤ) (axes : List Interval) → IsOfLines (view_text number axes)
+lines_of_view number [] = lines_of_row (number [] ∷ [])
+lines_of_view number (axis ∷ axes) = lines_of_all _ (cells_of axes) (λ rest. lines_of_row _)
+
+-- what an action prints is lines
+lines_printed : (declared : Declared) (does : Action) (world : World) → IsOfLines (printed declared does world)
+lines_printed declared (action.Assign target value mask) world = inl refl
+lines_printed declared (action.Reduce scalar reduction positions value) world = inl refl
+lines_printed declared (action.PrintView view) world = lines_of_view (λ p. seen_in declared world view (cell_named view.slots p)) (positions_of view.slots)
+lines_printed declared (action.PrintScalar scalar) world = lines_of_row (scalar_of world scalar ∷ [])
+lines_printed declared action.Block world = inl refl
 
 -- a run that faults ends in its fault
-step_faults : (line : ℕ) (bytes : List ℕ) (effect : Effect) (rest : World → Run) → ((world : World) → (rest world).faulted ≡ true → EndsInFault (rest world).bytes)
-    → (go_on line bytes effect rest).faulted ≡ true → EndsInFault (go_on line bytes effect rest).bytes
-step_faults line bytes (Faults fault) rest later faulted = record { front = []; line = line; fault = fault; last = refl }
-step_faults line bytes (Becomes world) rest later faulted =
-    let ends = later world faulted in
+step_faults : (declared : Declared) (s : Statement) (rest : List Statement) (world : World) (effect : Effect) → effect_of declared s.action world ≡ effect
+    → ((next : World) → (serial declared rest next).faulted ≡ true → StopsAtFault declared rest next (serial declared rest next).bytes)
+    → (go_on s.line (printed declared s.action world) effect (serial declared rest)).faulted ≡ true
+    → StopsAtFault declared (s ∷ rest) world (go_on s.line (printed declared s.action world) effect (serial declared rest)).bytes
+step_faults declared s rest world (Faults fault) is later faulted =
+    record { before = []; statement = s; after = rest; world = world; fault = fault; order = refl; reached = refl; faults = is; lines = inl refl; last = refl }
+step_faults declared s rest world (Becomes next) is later faulted =
+    let stops = later next faulted in
+    let shown : List ℕ = printed declared s.action world in
+    let whole : (serial declared (s ∷ stops.before) world).bytes ≡ shown ++ (serial declared stops.before next).bytes =
+    ap (λ (effect : Effect). (go_on s.line shown effect (serial declared stops.before)).bytes) is in
     record {
-      front = bytes ++ ends.front;
-      line = ends.line;
-      fault = ends.fault;
-      last = ap (λ (text : List ℕ). bytes ++ text) ends.last ∙ sym (append_assoc bytes ends.front _);
+      before = s ∷ stops.before;
+      statement = stops.statement;
+      after = stops.after;
+      world = stops.world;
+      fault = stops.fault;
+      order = ap (λ (statements : List Statement). s ∷ statements) stops.order;
+      reached = (next, is, stops.reached);
+      faults = stops.faults;
+      lines = subst IsOfLines (sym whole) (lines_append shown _ (lines_printed declared s.action world) stops.lines);
+      last = ap (λ (text : List ℕ). shown ++ text) stops.last
+          ∙ sym (append_assoc shown (serial declared stops.before next).bytes (fault_text stops.statement.line stops.fault))
+          ∙ ap (λ (front : List ℕ). front ++ fault_text stops.statement.line stops.fault) (sym whole);
     }
 
-serial_faults : (declared : Declared) (statements : List Statement) (world : World) → (serial declared statements world).faulted ≡ true → EndsInFault (serial declared statements world).bytes
+serial_faults : (declared : Declared) (statements : List Statement) (world : World) → (serial declared statements world).faulted ≡ true
+    → StopsAtFault declared statements world (serial declared statements world).bytes
 serial_faults declared [] world faulted = absurd (let no : ⊥ = cc in no)
 serial_faults declared (s ∷ rest) world faulted =
-    step_faults s.line (printed declared s.action world) (effect_of declared s.action world) (serial declared rest) (serial_faults declared rest) faulted
+    step_faults declared s rest world (effect_of declared s.action world) refl (serial_faults declared rest) faulted
 
 -- how a run ends
 ends_unrefused : (faulted : Bool) → ended faulted ≡ status.Refused → ⊥
@@ -73,7 +120,7 @@ refused_output_tells most words input output (inr p) is =
     absurd (let usage : output.status ≡ status.Usage = ap (λ (o : Output). o.status) p.1 in let no : ⊥ = cc in no)
 
 fault_of : (input : List ℕ) (script : Script) (does : Command) → IsScript input script → (output_of script does).status ≡ status.Faulted
-    → (workers : ℕ) × (program : Programmed) × IsScript input (Runs program) × (does ≡ command.Run workers) × EndsInFault (output_of script does).bytes
+    → (workers : ℕ) × (program : Programmed) × IsScript input (Runs program) × (does ≡ command.Run workers) × EndsInFault program (output_of script does).bytes
 fault_of input (Refused line why) does script is = absurd (let no : ⊥ = cc in no)
 fault_of input (Runs program) (command.Run workers) script is =
     (workers, program, script, refl, serial_faults program.declared program.order _ (ends_faulted (serial_of program).faulted is))
@@ -83,7 +130,7 @@ fault_of input (Runs program) command.Check script is = absurd (let no : ⊥ = c
 abbrev pub ToldFaulted : ℕ → List (List ℕ) → List ℕ → Output → Type 0
 ToldFaulted most words input output =
     (workers : ℕ) × (bytes : List ℕ) × (program : Programmed) × IsDoneWith most words input (command.Run workers) bytes × IsScript bytes (Runs program)
-    × EndsInFault output.bytes
+    × EndsInFault program output.bytes
 
 answer_faulted : (most : ℕ) (words : List (List ℕ)) (input : List ℕ) (does : Command) (bytes : List ℕ) (output : Output) → IsDoneWith most words input does bytes
     → IsAnswer does bytes output → output.status ≡ status.Faulted → ToldFaulted most words input output
@@ -94,12 +141,7 @@ answer_faulted most words input does bytes output done answer is =
       found.1,
       subst (λ (k : Command). IsDoneWith most words input k bytes) found.3 done,
       found.2,
-      record {
-        front = found.4.front;
-        line = found.4.line;
-        fault = found.4.fault;
-        last = ap (λ (o : Output). o.bytes) answer.2 ∙ found.4.last;
-      },
+      subst (EndsInFault found.1) (sym (ap (λ (o : Output). o.bytes) answer.2)) found.4,
     )
 
 pub faulted_output_tells : (most : ℕ) (words : List (List ℕ)) (input : List ℕ) (output : Output) → IsOutput most words input output → output.status ≡ status.Faulted

@@ -1,8 +1,12 @@
 -- What the program answers: the status and the bytes that are written.
 use Rattle.std.specs.Prelude.{◌≡◌, ◌⊎◌, ℕ, ◌<◌, Bool, true, false, List, [], ◌∷◌, ◌++◌, length, codes, Option, Some}
 use Rattle.std.specs.Io.KnownBytes.{Appends}
-use Rattle.pooma_model.specs.Assigning.{Fault}
-use Rattle.pooma_model.specs.Serial.{Run, serial_of}
+use Rattle.pooma_field.specs.Worlds.{World, opening_world}
+use Rattle.pooma_model.specs.declared.statement.Statement.{Statement}
+use Rattle.pooma_model.specs.Assigning.{Becomes, Fault, Faults}
+use Rattle.pooma_model.specs.Declarations.{Declared}
+use Rattle.pooma_model.specs.Order.{Programmed}
+use Rattle.pooma_model.specs.Serial.{Run, effect_of, serial, serial_of}
 use Rattle.pooma_model.specs.Texts.{fault_text}
 use Rattle.pooma_print.specs.Texts.{refusal_text}
 use Rattle.pooma_script.specs.declared.cause.Cause.{Cause}
@@ -88,12 +92,34 @@ IsDoneBy (Demo recipe workers) input does bytes = (command.Run workers ≡ does)
 abbrev pub IsDoneWith : ℕ → List (List ℕ) → List ℕ → Command → List ℕ → Type 0
 IsDoneWith most words input does bytes = (task : Task) × AsksFor most words task × IsDoneBy task input does bytes
 
--- the text of a fault is the last line
-pub record EndsInFault (bytes : List ℕ) : Type 0 where
-  pub front : List ℕ
-  pub line : ℕ
+-- these statements, done one after another from a world, fault nowhere and leave that one
+abbrev pub LeadTo : Declared → List Statement → World → World → Type 0
+LeadTo declared [] world left = left ≡ world
+LeadTo declared (s ∷ rest) world left =
+    (next : World) × (effect_of declared s.action world ≡ Becomes next) × LeadTo declared rest next left
+
+-- the text is empty, or ends with a line end
+abbrev pub IsOfLines : List ℕ → Type 0
+IsOfLines text = (text ≡ []) ⊎ ((front : List ℕ) × (text ≡ front ++ 10 ∷ []))
+
+-- One of the statements faults in the world to which those before it lead. The bytes are the lines that those print, and the text of
+-- that fault at its line, which is the last.
+pub record StopsAtFault (declared : Declared) (statements : List Statement) (opening : World) (bytes : List ℕ) : Type 0 where
+  pub before : List Statement
+  pub statement : Statement
+  pub after : List Statement
+  pub world : World
   pub fault : Fault
-  pub last : bytes ≡ front ++ fault_text line fault
+  pub order : statements ≡ before ++ statement ∷ after
+  pub reached : LeadTo declared before opening world
+  pub faults : effect_of declared statement.action world ≡ Faults fault
+  pub lines : IsOfLines (serial declared before opening).bytes
+  pub last : bytes ≡ (serial declared before opening).bytes ++ fault_text statement.line fault
+
+-- the last line is the fault of the program's run
+abbrev pub EndsInFault : Programmed → List ℕ → Type 0
+EndsInFault program bytes =
+    StopsAtFault program.declared program.order (opening_world program.declared.shapes program.declared.scalars) bytes
 
 -- what is known to be held grew by a front of these bytes that is not all of them
 abbrev pub AppendsLess : Option (List ℕ) → Option (List ℕ) → List ℕ → Type 0

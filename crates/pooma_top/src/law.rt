@@ -46,7 +46,7 @@ pub fn demos_run_made_scripts()
 {}
 
 /// The law of what the status of an output tells: a script that is refused, with the line and the cause; a program whose run
-/// faults, with the fault as the last line. The script is the input, or the one that is made for the words.
+/// faults, with the fault of that run as the last line. The script is the input, or the one that is made for the words.
 ///
 /// It does nothing; its contract is for proofs about what a run writes.
 pub fn outputs_by_status()
@@ -55,5 +55,5 @@ pub fn outputs_by_status()
         × IsDoneWith most words input command bytes × IsScript bytes (Refused line why) × (output.bytes ≡ refusal_text line (cause_text why)) }
     ensures faulted { (most : ℕ) (words : List (List ℕ)) (input : List ℕ) (output : Output) → IsOutput most words input output → output.status ≡ status.Faulted
         → (workers : ℕ) × (bytes : List ℕ) × (program : Programmed)
-        × IsDoneWith most words input (command.Run workers) bytes × IsScript bytes (Runs program) × EndsInFault output.bytes }
+        × IsDoneWith most words input (command.Run workers) bytes × IsScript bytes (Runs program) × EndsInFault program output.bytes }
 {}
