@@ -9,36 +9,42 @@ use std::alloc::{AllocError, Global};
 
 const TEXT: &[u8] = b"brick A (0:3); A = 7;print A";
 
-// Whether `read_all` answers the text where it is given in steps, and one call fails; none for 0.
-fn answer(
-    alloc: Global,
-    step: usize,
-    failing: u32,
-    limit: usize,
-) -> Result<Result<bool, ReadAllError>, AllocError> {
+/// What `read_all` comes to: whether it answers the text, and how many bytes a second one finds behind it, where that one
+/// does not fail.
+type Read = (Result<bool, ReadAllError>, Option<usize>);
+
+// What it comes to where the text is given in steps, and one call fails; none for 0.
+fn answer(alloc: Global, step: usize, failing: u32, limit: usize) -> Result<Read, AllocError> {
     let bytes = Vec::from_slice(alloc, TEXT)?;
     let mut source = MemorySource::new(bytes, step.max(1), vec![in alloc; failing]?);
-    match read_all(alloc, &mut source, limit) {
-        Ok(read) => Ok(Ok(read.as_slice() == TEXT)),
-        Err(error) => Ok(Err(error)),
+    let answer = match read_all(alloc, &mut source, limit) {
+        Ok(read) => Ok(read.as_slice() == TEXT),
+        Err(error) => Err(error),
+    };
+    match read_all(alloc, &mut source, 1000) {
+        Ok(rest) => Ok((answer, Some(rest.len()))),
+        Err(_) => Ok((answer, None)),
     }
 }
 
-// The bytes a call, the failing call, the limit, and the answer. At 7 bytes four calls take the text, and the fifth finds its
-// end.
-const ANSWERS: &[(usize, u32, usize, Result<bool, ReadAllError>)] = &[
-    (1, 0, 1000, Ok(true)),
-    (3, 0, 1000, Ok(true)),
-    (5, 0, 1000, Ok(true)),
-    (7, 0, 28, Ok(true)),
-    (100, 0, 28, Ok(true)),
-    (7, 0, 27, Err(ReadAllError::TooLong)),
-    (7, 1, 28, Err(ReadAllError::ReadFault)),
-    (7, 2, 28, Err(ReadAllError::ReadFault)),
-    (7, 3, 28, Err(ReadAllError::ReadFault)),
-    (7, 4, 28, Err(ReadAllError::ReadFault)),
-    (7, 5, 28, Err(ReadAllError::ReadFault)),
-    (7, 6, 28, Ok(true)),
+// The bytes a call, the failing call, the limit, and what it comes to. At 7 bytes four calls take the text, and the fifth finds
+// its end. Of too many bytes one past the limit is taken.
+const ANSWERS: &[(usize, u32, usize, Read)] = &[
+    (1, 0, 1000, (Ok(true), Some(0))),
+    (3, 0, 1000, (Ok(true), Some(0))),
+    (5, 0, 1000, (Ok(true), Some(0))),
+    (7, 0, 28, (Ok(true), Some(0))),
+    (100, 0, 28, (Ok(true), Some(0))),
+    (7, 0, 27, (Err(ReadAllError::TooLong), Some(0))),
+    (7, 0, 10, (Err(ReadAllError::TooLong), Some(17))),
+    (1, 0, 0, (Err(ReadAllError::TooLong), Some(27))),
+    (100, 0, 21, (Err(ReadAllError::TooLong), Some(6))),
+    (7, 1, 28, (Err(ReadAllError::ReadFault), Some(28))),
+    (7, 2, 28, (Err(ReadAllError::ReadFault), Some(21))),
+    (7, 3, 28, (Err(ReadAllError::ReadFault), Some(14))),
+    (7, 4, 28, (Err(ReadAllError::ReadFault), Some(7))),
+    (7, 5, 28, (Err(ReadAllError::ReadFault), Some(0))),
+    (7, 6, 28, (Ok(true), None)),
 ];
 
 #[test]

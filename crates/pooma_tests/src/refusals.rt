@@ -156,7 +156,8 @@ fn lines_are_refused_for_their_causes(rt: HostRuntime) {
 }
 
 // What `check` answers to a script, which is a front, so many times a part, a middle, and so many times an end. A row has these six
-// in this order; its last ones may be left out, and are nothing then. Semicolons are the ends of the script's lines.
+// in this order; its last ones may be left out, and are nothing then. Semicolons are the ends of the script's lines. The last two
+// rows have lines of 4,096 and of 4,097 tokens.
 const LIMITS: &str = "refused line 10001: limit (lines)||10001|;
 ok||10000|;
 ok|brick A (0:1);|9998|;|print A;
@@ -202,8 +203,8 @@ refused line 2: syntax|brick A (0:0);A = |20|1|;
 ok|brick A (0:0);A = |200|0|7;
 ok|#|1048575|x
 refused line 0: limit (script bytes)|#|1048576|x
-refused line 1: syntax||4096|+|;
-refused line 1: syntax||4097|+|;";
+ok|scalar a = |204|1+1+1+1+1+1+1+1+1+1&|1+1+1+1+1+1+1;
+refused line 1: syntax|scalar a = -|204|1+1+1+1+1+1+1+1+1+1&|1+1+1+1+1+1+1;";
 
 // The text of a column, or nothing where the row has none.
 fn column<'a>(columns: &[&'a str], place: usize) -> &'a str {

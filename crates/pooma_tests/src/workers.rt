@@ -149,28 +149,33 @@ impl Gate for Meeting {
     }
 }
 
-// Sets the two cells of an array by two workers whose works meet: whether one of them gave up, how the run ended, and how much
-// it wrote.
+impl Meeting {
+    // Whether both entries came, and neither gave up.
+    fn met(&self) -> bool {
+        let [first, second] = &self.came;
+        let came = [first.load(Ordering::SeqCst), second.load(Ordering::SeqCst)];
+        came == [1, 1] && self.missed.load(Ordering::SeqCst) == 0
+    }
+}
+
+// Sets the two cells of an array by two workers whose works meet: whether both came to the gate and met, how the run ended, and
+// how much it wrote.
 fn meet<R: Threads + Wait + Sync>(
     rt: &R,
     alloc: Global,
-) -> Result<(u64, Status, usize), AllocError> {
+) -> Result<(bool, Status, usize), AllocError> {
     let gate = Meeting {
         came: [AtomicU64::new(0), AtomicU64::new(0)],
         missed: AtomicU64::new(0),
     };
     let script = b"layout L (0:1) blocks (2)\narray A on L\nA = 1\n";
     let ended = run_by(rt, alloc, &["run", "2"], script, &gate)?;
-    Ok((
-        gate.missed.load(Ordering::SeqCst),
-        ended.status,
-        ended.text.len(),
-    ))
+    Ok((gate.met(), ended.status, ended.text.len()))
 }
 
 #[test]
 fn the_works_of_two_workers_meet(rt: HostRuntime) {
-    assert!(rt; meet(&rt, rt.alloc()) == Ok((0, Status::Done, 0)));
+    assert!(rt; meet(&rt, rt.alloc()) == Ok((true, Status::Done, 0)));
 }
 
 // Two statements of fifty iterates each, fifty times. In turn k the cell i of A is k * i, and 1 + 2 + .. + 50 = 1275, so the cell i
