@@ -94,5 +94,10 @@ for script in "$blocks"/*.pooma; do
         check "example ${script##*/} of the documents on $workers" "$(status_of "$wanted")" "$wanted" $status "$out"
     done
 done
+
+# The README of each crate, against its sources.
+out=$(tools/readmes --check)
+status=$?
+check "the crates' READMEs" 0 "${out##*$'\n'}" $status "$out"
 echo "program: $passed passed, $failed failed"
 [ "$failed" -eq 0 ]
