@@ -3,7 +3,7 @@ ghost use Rattle.std.specs.Prelude.{◌≡◌, IfSome};
 
 use crate::numbers::Numbers;
 use pooma_domain::{Cell, Strided};
-use pooma_expr::{Code, Expr, Op, Partial, Reduction, eval_at};
+use pooma_expr::{Code, Expr, Op, Operand, Partial, Reduction, Single, eval_at};
 use pooma_num::FaultKind::{self, Overflow, ZeroDivisor};
 use pooma_view::{Slot, View};
 use sqlite_items::Boxed;
@@ -212,4 +212,80 @@ fn only_the_whole_sum_has_to_fit(rt: HostRuntime) {
         reduced(Reduction::Min, &[], &[]),
     ];
     assert!(rt; values == [Some(Ok(MOST)), Some(Err(Overflow)), Some(Ok(4)), None]);
+}
+
+// The reduction of these numbers, put in as a row behind the first of them. None where they are more than some.
+fn reduced_by_row(
+    reduction: Reduction,
+    first: i64,
+    rest: &[i64],
+) -> Option<Result<i64, FaultKind>> {
+    if rest.len() > 1000 {
+        return None;
+    }
+    let mut part = Partial::start(reduction);
+    part.push(first);
+    part.push_row(rest);
+    Some(part.finish())
+}
+
+#[test]
+fn a_row_is_as_its_numbers(rt: HostRuntime) {
+    for (reduction, value) in REDUCTIONS {
+        assert_eq!(rt;
+            (reduction, reduced_by_row(*reduction, -2, &[-1, 0, 1, 2, 3])),
+            (reduction, Some(Ok(*value)))
+        );
+    }
+}
+
+// The one operation of an expression of few operands, with 5 for its scalar.
+fn single(alloc: Global, expr: &Expr) -> Result<Option<Single>, AllocError> {
+    if !expr.is_within_depth(256) || expr.scalars_needed() > 1 {
+        return Ok(None);
+    }
+    if expr.reads_left(64).is_none() {
+        return Ok(None);
+    }
+    let code = Code::of(alloc, expr, &[5])?;
+    Ok(code.single())
+}
+
+fn one_cell() -> Expr {
+    Expr::Read(View::new(0, &[Slot::Fixed(1)]))
+}
+
+// Of `A + 1`, of `A + 1 + 1`, and of a scalar below A.
+fn singles(alloc: Global) -> Result<[Option<Single>; 3], AllocError> {
+    let more = bin(alloc, Op::Add, one_cell(), Expr::Literal(1))?;
+    let first = single(alloc, &more)?;
+    let twice = bin(alloc, Op::Add, more, Expr::Literal(1))?;
+    let second = single(alloc, &twice)?;
+    let below = bin(alloc, Op::Less, Expr::Scalar(0), one_cell())?;
+    Ok([first, second, single(alloc, &below)?])
+}
+
+// Of a product, of literals alone, and of a read alone.
+fn others(alloc: Global) -> Result<[Option<Single>; 3], AllocError> {
+    let product = bin(alloc, Op::Mul, one_cell(), Expr::Literal(2))?;
+    let first = single(alloc, &product)?;
+    let literals = bin(alloc, Op::Add, Expr::Literal(1), Expr::Literal(2))?;
+    let second = single(alloc, &literals)?;
+    Ok([first, second, single(alloc, &one_cell())?])
+}
+
+#[test]
+fn one_operation_on_reads_and_literals(rt: HostRuntime) {
+    let more = Single {
+        op: Op::Add,
+        left: Operand::Read(0),
+        right: Operand::Literal(1),
+    };
+    let below = Single {
+        op: Op::Less,
+        left: Operand::Literal(5),
+        right: Operand::Read(0),
+    };
+    assert!(rt; singles(rt.alloc()) == Ok([Some(more), None, Some(below)]));
+    assert!(rt; others(rt.alloc()) == Ok([None; 3]));
 }

@@ -158,3 +158,24 @@ fn a_box_is_copied_whole(rt: HostRuntime) {
     assert!(rt; first_other(from(rt.alloc()), FROM) == Ok(None));
     assert!(rt; first_other(to(rt.alloc()), TO) == Ok(None));
 }
+
+// A patch over `0:2, 0:1`, first as it is kept as one, then with a row written backwards along the first axis: the row at
+// each number of the first axis along the second, backwards and forwards.
+fn rows(alloc: Global) -> Result<[[i64; 2]; 3], AllocError> {
+    let area = BoxN::of2(Axis { first: 0, last: 2 }, Axis { first: 0, last: 1 });
+    let mut patch = Patch::zeros(area);
+    let mut zeros = [9; 2];
+    patch.read_row(&Cell::of2(0, 1), 0, 2, &mut zeros);
+    patch.writable(alloc)?;
+    patch.write_row(&Cell::of2(2, 1), 0, -1, &[3, 4, 5]);
+    let mut last = [9; 2];
+    patch.read_row(&Cell::of2(2, 1), 1, -1, &mut last);
+    let mut first = [9; 2];
+    patch.read_row(&Cell::of2(0, 0), 1, 1, &mut first);
+    Ok([zeros, last, first])
+}
+
+#[test]
+fn rows_go_either_way_along_each_axis(rt: HostRuntime) {
+    assert!(rt; rows(rt.alloc()) == Ok([[0, 0], [3, 0], [0, 5]]));
+}
